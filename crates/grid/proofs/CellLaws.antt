@@ -1,0 +1,76 @@
+-- Where a cell stands, and what a put changes. Assumes nothing.
+use mathlib.Core.Path.{_≡_, refl, ap, sym, _∙_}
+use mathlib.Core.List.{List}
+use Prim.Native.Nat.{ℕ, zero, suc, _+_, _*_, _/_, _%_, _≤_, _<_}
+use native.Mathlib.Nat.{mul-le-mul, zero-lt-suc, mod-lt, div-add-mod', div-lt-iff-lt-mul}
+use native.Mathlib.Omega.{arith}
+use lib.Arith.{digits-lt, digits-div, digits-mod}
+use lib.ListN.{length, getD, set, length-set}
+use lib.Seq.{getD-set-same, getD-set-other}
+use Rattle.grid.specs.Cells.{cell, put, putBoth}
+
+-- a cell's place is inside, and small
+pub record Place (n i j : ℕ) : Type 0 where
+  pub inside : i * n + j < n * n
+  pub small : n * n ≤ 1024
+
+pub place : {n i j : ℕ} → n ≤ 32 → i < n → j < n → Place n i j
+place hn hi hj = record { inside = digits-lt hi hj; small = mul-le-mul hn hn }
+
+pub put-length : (n : ℕ) (g : List ℕ) (i j a : ℕ) → length (put n g i j a) ≡ length g
+unfolding put
+put-length n g i j a = length-set g (i * n + j) a
+
+pub putBoth-length : (turn : ℕ → ℕ) (n : ℕ) (g : List ℕ) (i j a : ℕ) → length (putBoth turn n g i j a) ≡ length g
+unfolding putBoth
+putBoth-length turn n g i j a = put-length n (put n g i j a) j i (turn a) ∙ put-length n g i j a
+
+module _ (n : ℕ) (g : List ℕ) (fits : n * n ≤ length g) (i j a : ℕ) (hi : i < n) (hj : j < n) where
+  pub cell-put-same : cell n (put n g i j a) i j ≡ a
+  unfolding cell put
+  cell-put-same = getD-set-same g (i * n + j) a 0 (omega (arith, digits-lt hi hj))
+
+  pub cell-put-other : (x y : ℕ) → y < n → ((x ≡ i) × (y ≡ j) → ⊥) → cell n (put n g i j a) x y ≡ cell n g x y
+  unfolding cell put
+  cell-put-other x y hy ne =
+      getD-set-other g (i * n + j) (x * n + y) a 0
+      (λ e. ne (
+        sym (digits-div x hy) ∙ ap (λ p. p / n) e ∙ digits-div i hj,
+        sym (digits-mod x hy) ∙ ap (λ p. p % n) e ∙ digits-mod i hj,
+      ))
+
+-- a cell and its mirror, off the diagonal
+module _ (turn : ℕ → ℕ) (n : ℕ) (g : List ℕ) (fits : n * n ≤ length g) (i j a : ℕ) (hi : i < n) (hj : j < n) where
+  fits-put : n * n ≤ length (put n g i j a)
+  fits-put = omega (arith, put-length n g i j a)
+
+  pub cell-both-mirror : cell n (putBoth turn n g i j a) j i ≡ turn a
+  unfolding putBoth
+  cell-both-mirror = cell-put-same n (put n g i j a) fits-put j i (turn a) hj hi
+
+  pub cell-both-here : (i ≡ j → ⊥) → cell n (putBoth turn n g i j a) i j ≡ a
+  unfolding putBoth
+  cell-both-here ne = cell-put-other n (put n g i j a) fits-put j i (turn a) hj hi i j hj (λ w. ne (w .0)) ∙ cell-put-same n g fits i j a hi hj
+
+  pub cell-both-other : (x y : ℕ) → y < n → ((x ≡ i) × (y ≡ j) → ⊥) → ((x ≡ j) × (y ≡ i) → ⊥)
+      → cell n (putBoth turn n g i j a) x y ≡ cell n g x y
+  unfolding putBoth
+  cell-both-other x y hy p q =
+      cell-put-other n (put n g i j a) fits-put j i (turn a) hj hi x y hy q ∙ cell-put-other n g fits i j a hi hj x y hy p
+
+-- ---- from a place to its cell
+
+-- the row and the column of a place
+pub record Found (n p : ℕ) : Type 0 where
+  pub row : p / n < n
+  pub column : p % n < n
+  pub back : p / n * n + p % n ≡ p
+
+pub found : (n p : ℕ) → p < n * n → Found n p
+found n p h =
+    let pos : 0 < n = pos-of n h in
+    record { row = div-lt-iff-lt-mul pos .1 h; column = mod-lt p pos; back = div-add-mod' p n }
+  where
+    pos-of : (n : ℕ) → p < n * n → 0 < n
+    pos-of zero h = absurd (omega arith)
+    pos-of (suc n) h = zero-lt-suc n

@@ -1,0 +1,65 @@
+-- No cell passed so far is unlike its mirror.
+use mathlib.Core.Path.{_≡_, sym, ap, _∙_, subst}
+use mathlib.Core.Bool.{not}
+use Prim.Native.Nat.{ℕ, _-_, _≤_}
+use borrow.Author.Tests.{lt-ltb, le-ltb, eq-eqb, ne-eqb}
+use lib.Dec.{eqb, ltb}
+use lib.ListN.{length, getD}
+use Rattle.relation.proofs.Tested.{NoneBelow, none-more, some-yes, some-no}
+use Rattle.grid.specs.Cells.{cell}
+use Rattle.relation.specs.Composition.{converse}
+use borrow.Author.Needs.{needs}
+use native.Mathlib.Omega.{arith}
+use Rattle.grid.proofs.row_unlike.Statement.{statement}
+use Rattle.grid.proofs.row_unlike.Tie as tie
+
+abbrev Inv-loop : tie.InvT-loop
+Inv-loop g n i j₀ j = (j ≤ n) × NoneBelow (λ k. not (eqb (cell n g k i) (converse (cell n g i k)))) j
+
+abbrev μ-loop : tie.MeasureT-loop
+μ-loop g n i j₀ j = n - j
+
+loop-holds : tie.Need-loop-holds Inv-loop μ-loop
+loop-holds c = (search needs, λ i h. absurd (omega arith))
+
+get-requires : tie.Need-get-requires Inv-loop μ-loop
+get-requires c κs = (search needs, search needs, search needs, omega arith)
+
+converse-of-requires : tie.Need-converse-of-requires Inv-loop μ-loop
+converse-of-requires c κs = search needs
+
+get-requires-2 : tie.Need-get-requires-2 Inv-loop μ-loop
+get-requires-2 c κs = (search needs, search needs, search needs, omega arith)
+
+returns : tie.Need-returns Inv-loop μ-loop
+returns c = sym (some-yes (c .before .before .before .before .before .before .before .args .n) (λ j. not (eqb (cell (c .before .before .before .before .before .before .before .args .n) (c .before .before .before .before .before .before .before .args .g .now) j (c .before .before .before .before .before .before .before .args .i)) (converse (cell (c .before .before .before .before .before .before .before .args .n) (c .before .before .before .before .before .before .before .args .g .now) (c .before .before .before .before .before .before .before .args .i) j)))) (c .before .before .before .before .before .loop .j) (search needs) (ap not (ne-eqb _ _ (λ e. c .if1 .taken (c .before .get2 .ensures ∙ e ∙ sym (c .before .before .converse-of .ensures ∙ ap converse (c .before .before .before .get .ensures)))))))
+
+add-j : tie.Need-add-j Inv-loop μ-loop
+add-j c = search needs
+
+loop-less : tie.Need-loop-less Inv-loop μ-loop
+loop-less c = search needs
+
+loop-again : tie.Need-loop-again Inv-loop μ-loop
+loop-again c = (search needs, none-more (λ j. not (eqb (cell (c .before .before .before .before .before .before .before .args .n) (c .before .before .before .before .before .before .before .args .g .now) j (c .before .before .before .before .before .before .before .args .i)) (converse (cell (c .before .before .before .before .before .before .before .args .n) (c .before .before .before .before .before .before .before .args .g .now) (c .before .before .before .before .before .before .before .args .i) j)))) (c .before .before .before .before .before .loop .j) (c .before .before .before .before .before .loop .inv .1) (ap not (eq-eqb _ _ (sym (c .before .get2 .ensures) ∙ c .if1 .left ∙ c .before .before .converse-of .ensures ∙ ap converse (c .before .before .before .get .ensures)))))
+
+returns-2 : tie.Need-returns-2 Inv-loop μ-loop
+returns-2 c =
+    let e : c .before .loop .j ≡ c .before .before .before .args .n = omega arith in
+    sym (some-no (c .before .before .before .args .n) (λ j. not (eqb (cell (c .before .before .before .args .n) (c .before .before .before .args .g .now) j (c .before .before .before .args .i)) (converse (cell (c .before .before .before .args .n) (c .before .before .before .args .g .now) (c .before .before .before .args .i) j)))) (subst (NoneBelow (λ j. not (eqb (cell (c .before .before .before .args .n) (c .before .before .before .args .g .now) j (c .before .before .before .args .i)) (converse (cell (c .before .before .before .args .n) (c .before .before .before .args .g .now) (c .before .before .before .args .i) j))))) e (c .before .loop .inv .1)))
+
+pub row-unlike-spec : {M : Type 1} → statement M
+row-unlike-spec =
+    tie.close
+    (tie.spec
+    Inv-loop
+    μ-loop
+    loop-holds
+    get-requires
+    converse-of-requires
+    get-requires-2
+    returns
+    add-j
+    loop-less
+    loop-again
+    returns-2)

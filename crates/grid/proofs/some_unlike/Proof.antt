@@ -1,0 +1,52 @@
+-- No row passed so far has a cell unlike its mirror.
+use mathlib.Core.Path.{_≡_, sym, _∙_, subst}
+use Prim.Native.Nat.{ℕ, _-_, _≤_}
+use Rattle.grid.specs.Accepted.{rowUnlike}
+use Rattle.relation.proofs.Tested.{NoneBelow, none-more, some-yes, some-no}
+use borrow.Author.Needs.{needs}
+use native.Mathlib.Omega.{arith}
+use Rattle.grid.proofs.some_unlike.Statement.{statement}
+use Rattle.grid.proofs.some_unlike.Tie as tie
+
+abbrev Inv-loop : tie.InvT-loop
+Inv-loop g n i₀ i = (i ≤ n) × NoneBelow (rowUnlike n g) i
+
+abbrev μ-loop : tie.MeasureT-loop
+μ-loop g n i₀ i = n - i
+
+loop-holds : tie.Need-loop-holds Inv-loop μ-loop
+loop-holds c = (search needs, λ i h. absurd (omega arith))
+
+row-unlike-requires : tie.Need-row-unlike-requires Inv-loop μ-loop
+row-unlike-requires c κs = (search needs, search needs, search needs)
+
+returns : tie.Need-returns Inv-loop μ-loop
+returns c = sym (some-yes (c .before .before .before .before .before .args .n) (rowUnlike (c .before .before .before .before .before .args .n) (c .before .before .before .before .before .args .g .now)) (c .before .before .before .loop .i) (search needs) (sym (c .before .row-unlike .ensures) ∙ c .if1 .taken))
+
+add-i : tie.Need-add-i Inv-loop μ-loop
+add-i c = search needs
+
+loop-less : tie.Need-loop-less Inv-loop μ-loop
+loop-less c = search needs
+
+loop-again : tie.Need-loop-again Inv-loop μ-loop
+loop-again c = (search needs, none-more (rowUnlike (c .before .before .before .before .before .args .n) (c .before .before .before .before .before .args .g .now)) (c .before .before .before .loop .i) (c .before .before .before .loop .inv .1) (sym (c .before .row-unlike .ensures) ∙ c .if1 .left))
+
+returns-2 : tie.Need-returns-2 Inv-loop μ-loop
+returns-2 c =
+    let e : c .before .loop .i ≡ c .before .before .before .args .n = omega arith in
+    sym (some-no (c .before .before .before .args .n) (rowUnlike (c .before .before .before .args .n) (c .before .before .before .args .g .now)) (subst (NoneBelow (rowUnlike (c .before .before .before .args .n) (c .before .before .before .args .g .now))) e (c .before .loop .inv .1)))
+
+pub some-unlike-spec : {M : Type 1} → statement M
+some-unlike-spec =
+    tie.close
+    (tie.spec
+    Inv-loop
+    μ-loop
+    loop-holds
+    row-unlike-requires
+    returns
+    add-i
+    loop-less
+    loop-again
+    returns-2)

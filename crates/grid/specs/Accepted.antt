@@ -1,0 +1,54 @@
+-- Document 01, "Grids" and "What comes back": when a grid is accepted, and the refusals 1 to 5. Assumes nothing.
+use mathlib.Core.Path.{_≡_}
+use mathlib.Core.Bool.{Bool, true, false, not}
+use mathlib.Core.List.{List}
+use Prim.Native.Nat.{ℕ, _*_, _≤_, _<_}
+use lib.Dec.{eqb, ltb}
+use lib.ListN.{length, getD}
+use Rattle.refusal.specs.Numbers.{numberOf}
+use Rattle.relation.specs.Meaning.{pickℕ}
+use Rattle.relation.specs.Sets.{some}
+use Rattle.relation.specs.Composition.{converse}
+use Rattle.grid.specs.Cells.{cell}
+use Rattle.grid.specs.declared.Judged.{Judged}
+use Rattle.grid.specs.declared.Judged.the-variants.{Accepted as accepted, Refused}
+
+pub record Accepted (n : ℕ) (g : List ℕ) : Type 0 where
+  pub few : n ≤ 32
+  pub long : length g ≡ n * n
+  pub small : (i j : ℕ) → i < n → j < n → cell n g i j ≤ 8191
+  pub diagonal : (i : ℕ) → i < n → cell n g i i ≡ 4096
+  pub mirrored : (i j : ℕ) → i < n → j < n → cell n g j i ≡ converse (cell n g i j)
+
+-- 1, then 2; 0 is none
+unfoldable pub sizeRefusal : ℕ → List ℕ → ℕ
+sizeRefusal n g = pickℕ (ltb 32 n) 1 (pickℕ (eqb (length g) (n * n)) 0 2)
+
+-- a cell above 8191; a diagonal cell that is not {eq}; a cell whose mirror is not its converse
+abbrev pub someLarge : List ℕ → Bool
+someLarge g = some (length g) (λ p. ltb 8191 (getD g p 0))
+
+abbrev pub someNotEq : ℕ → List ℕ → Bool
+someNotEq n g = some n (λ i. not (eqb (cell n g i i) 4096))
+
+abbrev pub rowUnlike : ℕ → List ℕ → ℕ → Bool
+rowUnlike n g i = some n (λ j. not (eqb (cell n g j i) (converse (cell n g i j))))
+
+abbrev pub someUnlike : ℕ → List ℕ → Bool
+someUnlike n g = some n (rowUnlike n g)
+
+-- 3, then 4, then 5, each looked for over everything before the next; 0 is none
+unfoldable pub cellRefusal : ℕ → List ℕ → ℕ
+cellRefusal n g = pickℕ (someLarge g) 3 (pickℕ (someNotEq n g) 4 (pickℕ (someUnlike n g) 5 0))
+
+-- the first refusal of a grid; 0 is none
+abbrev pub firstOf : ℕ → ℕ → ℕ
+firstOf a b = pickℕ (eqb a 0) b a
+
+abbrev pub gridRefusal : ℕ → List ℕ → ℕ
+gridRefusal n g = firstOf (sizeRefusal n g) (cellRefusal n g)
+
+-- an answer's number
+abbrev pub judgedNumber : Judged → ℕ
+judgedNumber accepted = 0
+judgedNumber (Refused r) = numberOf r

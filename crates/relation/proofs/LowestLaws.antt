@@ -1,0 +1,100 @@
+-- The lowest member of a set, and the set without it. Assumes nothing.
+use mathlib.Core.Path.{_≡_, refl, sym, ap, ap₂, _∙_, subst}
+use mathlib.Core.Bool.{Bool, true, false, not, _&&_}
+use Prim.Native.Nat.{ℕ, zero, suc, _+_, _-_, _*_, _/_, _%_, _^_, _<_, _≤_, suc-le-suc}
+use native.Mathlib.Nat.{pow-suc, not-suc-le-zero, zero-lt-suc, le-of-suc-le-suc, lt-of-not-le}
+use native.Mathlib.Omega.{arith}
+use lib.Dec.{T, eqb, eqb·suc-suc, eqb·zero-suc, eqb·suc-zero}
+use lib.Pow.{pow-pos, pow-mono}
+use lib.Count.{trailingZeros, under}
+use borrow.Author.Tests.{eqb-true}
+use Rattle.relation.specs.Sets.{member}
+use Rattle.relation.proofs.Tested.{T-of}
+use Rattle.relation.proofs.SetLaws.{member-low, member-high}
+
+-- t is the lowest member of a, of those below k
+pub record Lowest (k a t : ℕ) : Type 0 where
+  pub below : t < k
+  pub is-in : member t a ≡ true
+  pub first : (u : ℕ) → u < t → member u a ≡ false
+
+pub lowest : (k n : ℕ) → zero < n → n < 2 ^ k → Lowest k n (trailingZeros k n)
+unfolding trailingZeros
+lowest zero n h l = absurd (not-suc-le-zero (le-of-suc-le-suc-lt h l))
+  where
+    le-of-suc-le-suc-lt : zero < n → n < 1 → zero < zero
+    le-of-suc-le-suc-lt p q = omega arith
+lowest (suc k) n h l = go (n % 2) refl (λ p. lowest k (n / 2) p (let e = pow-suc 2 k in omega arith))
+  where
+    under-first : {t : ℕ} → member zero n ≡ false → ((u : ℕ) → u < t → member (suc u) n ≡ false)
+        → (u : ℕ) → u < suc t → member u n ≡ false
+    under-first z f zero h = z
+    under-first z f (suc u) h = f u (le-of-suc-le-suc h)
+
+    go : (d : ℕ) → n % 2 ≡ d → (zero < n / 2 → Lowest k (n / 2) (trailingZeros k (n / 2)))
+        → Lowest (suc k) n (under d (trailingZeros k (n / 2)))
+    go zero e f =
+        let r = f (omega arith) in
+        record {
+          below = suc-le-suc (r .below);
+          is-in = member-high (trailingZeros k (n / 2)) n ∙ r .is-in;
+          first = under-first (member-low n ∙ ap (λ (x : ℕ). eqb x 1) e) (λ u h. member-high u n ∙ r .first u h);
+        }
+    go (suc d) e f =
+        let one : n % 2 ≡ 1 = omega arith in
+        record { below = zero-lt-suc k; is-in = member-low n ∙ ap (λ (x : ℕ). eqb x 1) one; first = λ u h. absurd (not-suc-le-zero h) }
+
+-- a member's mark is no more than the set
+pub mark-le : (t n : ℕ) → member t n ≡ true → 2 ^ t ≤ n
+mark-le zero n e =
+    let o : n % 2 ≡ 1 = eqb-true (n % 2) 1 (sym (member-low n) ∙ e) in
+    omega arith
+mark-le (suc t) n e =
+    let p = pow-suc 2 t in
+    let r = mark-le t (n / 2) (sym (member-high t n) ∙ e) in
+    omega arith
+
+-- without a member
+pub member-without : (t n u : ℕ) → member t n ≡ true → member u (n - 2 ^ t) ≡ (member u n && not (eqb u t))
+member-without zero n zero e =
+    let o : n % 2 ≡ 1 = eqb-true (n % 2) 1 (sym (member-low n) ∙ e) in
+    let z : (n - 1) % 2 ≡ 0 = omega arith in
+    member-low (n - 1) ∙ ap (λ (x : ℕ). eqb x 1) z ∙ sym (ap (λ (x : Bool). x && false) e)
+member-without zero n (suc u) e =
+    let o : n % 2 ≡ 1 = eqb-true (n % 2) 1 (sym (member-low n) ∙ e) in
+    let z : (n - 1) / 2 ≡ n / 2 = omega arith in
+    member-high u (n - 1) ∙ ap (member u) z ∙ sym (member-high u n) ∙ sym (rw (eqb·suc-zero u) (and-true (member (suc u) n)))
+  where
+    and-true : (x : Bool) → (x && true) ≡ x
+    and-true true = refl
+    and-true false = refl
+member-without (suc t) n zero e =
+    let p = pow-suc 2 t in
+    let q = pow-pos t in
+    let l = mark-le (suc t) n e in
+    let z : (n - 2 ^ suc t) % 2 ≡ n % 2 = omega arith in
+    member-low (n - 2 ^ suc t) ∙ ap (λ (x : ℕ). eqb x 1) z ∙ sym (member-low n) ∙ sym (rw (eqb·zero-suc t) (and-true (member zero n)))
+  where
+    and-true : (x : Bool) → (x && true) ≡ x
+    and-true true = refl
+    and-true false = refl
+member-without (suc t) n (suc u) e =
+    let p = pow-suc 2 t in
+    let h : member t (n / 2) ≡ true = sym (member-high t n) ∙ e in
+    let l = mark-le t (n / 2) h in
+    let z : (n - 2 ^ suc t) / 2 ≡ n / 2 - 2 ^ t = omega arith in
+    member-high u (n - 2 ^ suc t) ∙ ap (member u) z ∙ member-without t (n / 2) u h
+    ∙ ap₂ (λ (x y : Bool). x && not y) (sym (member-high u n)) (sym (eqb·suc-suc u t))
+
+-- of the thirteen
+pub lowest-thirteen : (n : ℕ) → zero < n → n < 8192 → Lowest 13 n (trailingZeros 16 n)
+lowest-thirteen n h l =
+    let r = lowest 16 n h (omega arith) in
+    record { below = small (trailingZeros 16 n) (mark-le (trailingZeros 16 n) n (r .is-in)); is-in = r .is-in; first = r .first }
+  where
+    small : (t : ℕ) → 2 ^ t ≤ n → t < 13
+    small t g = lt-of-not-le (λ (m : 13 ≤ t). let p = pow-mono m in absurd (omega arith))
+
+-- a set that is not empty has a member
+pub some-member : (a : ℕ) → 0 < a → a < 8192 → (r : ℕ) × (r < 13) × T (member r a)
+some-member a h l = let w = lowest-thirteen a h l in (trailingZeros 16 a, w .below, T-of (w .is-in))

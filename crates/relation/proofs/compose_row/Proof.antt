@@ -1,0 +1,69 @@
+-- What is gathered so far, with the row of the members left, is the row of the whole set.
+use mathlib.Core.Path.{_≡_, refl, sym, ap, _∙_}
+use Rattle.relation.specs.Composition.{entry, table, composeRow, compose}
+use Rattle.relation.proofs.UnionLaws.{Gathers, gathers-start, gathers-turn, gathers-end, next-of}
+use Rattle.relation.proofs.Laws.{entry-lt, entry-read, row-lt}
+use Rattle.relation.proofs.Laws.{entry-lt, row-lt}
+use borrow.Author.Needs.{needs}
+use Rattle.relation.proofs.compose_row.Statement.{statement}
+use Rattle.relation.proofs.compose_row.Tie as tie
+
+abbrev Inv-loop : tie.InvT-loop
+Inv-loop t r b out₀ left₀ out left = Gathers (entry r) b out left
+
+abbrev μ-loop : tie.MeasureT-loop
+μ-loop t r b out₀ left₀ out left = left
+
+loop-holds : tie.Need-loop-holds Inv-loop μ-loop
+loop-holds c = gathers-start (entry (c .args .r)) (c .args .b)
+
+lowest-requires : tie.Need-lowest-requires Inv-loop μ-loop
+lowest-requires c κs = search needs
+
+mul-out : tie.Need-mul-out Inv-loop μ-loop
+mul-out c = search needs
+
+mul-out-2 : tie.Need-mul-out-2 Inv-loop μ-loop
+mul-out-2 c = let n = next-of (c .before .before .loop .left) (c .lowest .result) (c .before .loop-test .taken) (c .before .before .loop .inv .left-lt) (c .lowest .ensures) in search needs
+
+index-1-out : tie.Need-index-1-out Inv-loop μ-loop
+index-1-out c = let n = next-of (c .before .before .loop .left) (c .lowest .result) (c .before .loop-test .taken) (c .before .before .loop .inv .left-lt) (c .lowest .ensures) in search needs
+
+index-2-out : tie.Need-index-2-out Inv-loop μ-loop
+index-2-out c = let n = next-of (c .before .before .loop .left) (c .lowest .result) (c .before .loop-test .taken) (c .before .before .loop .inv .left-lt) (c .lowest .ensures) in search needs
+
+without-requires : tie.Need-without-requires Inv-loop μ-loop
+without-requires c κs = let n = next-of (c .before .before .before .loop .left) (c .before .lowest .result) (c .before .before .loop-test .taken) (c .before .before .before .loop .inv .left-lt) (c .before .lowest .ensures) in (n .small, n .is-in)
+
+loop-less : tie.Need-loop-less Inv-loop μ-loop
+loop-less c = let n = next-of (c .before .before .before .before .loop .left) (c .before .before .lowest .result) (c .before .before .before .loop-test .taken) (c .before .before .before .before .loop .inv .left-lt) (c .before .before .lowest .ensures) in rw (c .without .ensures) (n .less)
+
+loop-again : tie.Need-loop-again Inv-loop μ-loop
+loop-again c =
+    let r = c .before .before .before .before .before .args .r in
+    let s = c .before .before .lowest .result in
+    let n = next-of (c .before .before .before .before .loop .left) (c .before .before .lowest .result) (c .before .before .before .loop-test .taken) (c .before .before .before .before .loop .inv .left-lt) (c .before .before .lowest .ensures) in
+    gathers-turn (entry r) (c .before .before .before .before .before .args .b) (c .before .before .before .before .loop .out) (c .before .before .before .before .loop .left) s _ (c .without .result)
+    (entry-lt r s (c .before .before .before .before .before .pre .0) (n .small)) n (c .before .before .before .before .loop .inv)
+    (entry-read (c .before .before .before .before .before .args .t .now) r s (c .before .before .before .before .before .pre .1)) (c .without .ensures)
+
+returns : tie.Need-returns Inv-loop μ-loop
+unfolding composeRow
+returns c = gathers-end (entry (c .before .before .args .r)) (c .before .before .args .b) (c .before .loop .out) (c .before .loop .left) (c .loop-test .left) (c .before .loop .inv)
+
+pub compose-row-spec : {M : Type 1} → statement M
+compose-row-spec =
+    tie.close
+    (tie.spec
+    Inv-loop
+    μ-loop
+    loop-holds
+    lowest-requires
+    mul-out
+    mul-out-2
+    index-1-out
+    index-2-out
+    without-requires
+    loop-less
+    loop-again
+    returns)

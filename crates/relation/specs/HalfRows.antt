@@ -1,0 +1,16 @@
+-- The half rows that fast composition is lent. Assumes nothing.
+use mathlib.Core.Path.{_≡_}
+use mathlib.Core.List.{List}
+use Prim.Native.Nat.{ℕ, _+_, _-_, _*_, _<_}
+use lib.Dec.{ltb}
+use lib.ListN.{getD}
+use Rattle.relation.specs.Meaning.{pickℕ}
+use Rattle.relation.specs.Composition.{composeRow}
+
+-- the set that a place of a half row stands for: one of the first seven relations, or of the other six
+abbrev pub halfSet : ℕ → ℕ
+halfSet q = pickℕ (ltb q 128) q ((q - 128) * 128)
+
+-- 192 sets for each relation r: r with each set of the first seven relations, then with each set of the other six
+pub record HalfRows (rows : List ℕ) : Type 0 where
+  pub at : (r q : ℕ) → r < 13 → q < 192 → getD rows (r * 192 + q) 0 ≡ composeRow r (halfSet q)

@@ -1,0 +1,5 @@
+pub mod Meaning
+pub mod Sets
+pub mod Composition
+pub mod HalfRows
+pub mod Answers

@@ -1,0 +1,62 @@
+-- Document 01, "The thirteen relations": what each means between two placed events, over all whole numbers. Assumes nothing.
+use mathlib.Core.Path.{_≡_}
+use mathlib.Core.Bool.{Bool, true, false}
+use mathlib.Core.List.{List, [], _∷_}
+use Prim.Native.Nat.{ℕ, _+_, _-_, _%_}
+use lib.Dec.{eqb}
+use lib.ListN.{getD}
+use lib.IntN.{ℤ}
+use lib.Signed.{_<ℤ_}
+
+-- a placed event: its start is before its end
+pub record Event : Type 0 where
+  pub start : ℤ
+  pub end : ℤ
+  pub lasts : start <ℤ end
+
+abbrev pub before : Event → Event → Type 0
+before X Y = X .end <ℤ Y .start
+
+abbrev pub meets : Event → Event → Type 0
+meets X Y = X .end ≡ Y .start
+
+abbrev pub overlaps : Event → Event → Type 0
+overlaps X Y = (X .start <ℤ Y .start) × (Y .start <ℤ X .end) × (X .end <ℤ Y .end)
+
+abbrev pub starts : Event → Event → Type 0
+starts X Y = (X .start ≡ Y .start) × (X .end <ℤ Y .end)
+
+abbrev pub during : Event → Event → Type 0
+during X Y = (Y .start <ℤ X .start) × (X .end <ℤ Y .end)
+
+abbrev pub finishes : Event → Event → Type 0
+finishes X Y = (Y .start <ℤ X .start) × (X .end ≡ Y .end)
+
+abbrev pub equals : Event → Event → Type 0
+equals X Y = (X .start ≡ Y .start) × (X .end ≡ Y .end)
+
+-- a relation with X and Y exchanged
+abbrev pub back : (Event → Event → Type 0) → Event → Event → Type 0
+back R X Y = R Y X
+
+-- by number: b, bi, m, mi, o, oi, s, si, d, di, f, fi, eq
+abbrev pub relations : List (Event → Event → Type 0)
+relations =
+    before ∷ back before ∷ meets ∷ back meets ∷ overlaps ∷ back overlaps ∷ starts ∷ back starts ∷ during ∷ back during
+    ∷ finishes ∷ back finishes ∷ equals ∷ []
+
+-- no other number is a relation
+abbrev pub never : Event → Event → Type 0
+never X Y = ⊥
+
+-- relation r holds of X to Y
+abbrev pub holds : ℕ → Event → Event → Type 0
+holds r = getD relations r never
+
+abbrev pub pickℕ : Bool → ℕ → ℕ → ℕ
+pickℕ true a b = a
+pickℕ false a b = b
+
+-- the number of relation r with X and Y exchanged: neighbours change places, and eq is kept
+unfoldable pub exchanged : ℕ → ℕ
+exchanged r = pickℕ (eqb r 12) 12 (pickℕ (eqb (r % 2) 0) (r + 1) (r - 1))
