@@ -1,7 +1,7 @@
 // What the programs of the gate share: numbers in bytes, low byte first, and whole reads and writes.
 use libc::STDIN_FILENO;
 use libc::STDOUT_FILENO;
-ghost use Prim.Native.Nat.{_+_, _≤_};
+ghost use Prim.Native.Nat.{_+_, _*_, _≤_};
 ghost use lib.ListN.{length};
 
 fn wide(x: u8) -> u32
@@ -48,6 +48,34 @@ pub fn write32(out: &mut [u8], at: usize, x: u32)
     out[at + 1] = (x / 256 % 256) as u8;
     out[at + 2] = (x / 65536 % 256) as u8;
     out[at + 3] = (x / 16777216 % 256) as u8;
+}
+
+// Fills the cells from the bytes.
+pub fn read16s(bytes: &[u8], cells: &mut [u16])
+    requires { ⌜ 2 * length (now cells) ≤ length (now bytes) ⌝ }
+{
+    let mut k = 0;
+    while k < cells.len() {
+        put(cells, k, read16(bytes, 2 * k));
+        k += 1;
+    }
+}
+
+fn put(cells: &mut [u16], k: usize, x: u16)
+    requires { ⌜ k + 1 ≤ length (now cells) ⌝ }
+{
+    cells[k] = x;
+}
+
+// Writes the cells from a place on.
+pub fn write16s(out: &mut [u8], at: usize, cells: &[u16])
+    requires { ⌜ at + 2 * length (now cells) ≤ length (now out) ⌝ }
+{
+    let mut k = 0;
+    while k < cells.len() {
+        write16(out, at + 2 * k, cells[k]);
+        k += 1;
+    }
 }
 
 // Reads n bytes into the front of the room: whether all came.

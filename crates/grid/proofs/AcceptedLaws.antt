@@ -3,6 +3,7 @@ use mathlib.Core.Path.{_≡_, refl, sym, ap, _∙_, subst}
 use mathlib.Core.Bool.{Bool, true, false, not}
 use mathlib.Core.List.{List}
 use Prim.Native.Nat.{ℕ, _+_, _*_, _/_, _%_, _≤_, _<_}
+use native.Mathlib.Decide.{ℕ-discrete}
 use native.Mathlib.Omega.{arith}
 use borrow.Author.Tests.{le-ltb, eq-eqb, ne-eqb, ltb-false, eqb-true, not-false}
 use lib.Arith.{digits-lt}
@@ -14,7 +15,7 @@ use Rattle.relation.specs.Composition.{converse}
 use Rattle.relation.proofs.Tested.{some-yes, some-no}
 use Rattle.grid.specs.Cells.{cell}
 use Rattle.grid.proofs.CellLaws.{found}
-use Rattle.grid.specs.Accepted.{Accepted, sizeRefusal, someLarge, someNotEq, rowUnlike, someUnlike, cellRefusal, firstOf}
+use Rattle.grid.specs.Accepted.{Accepted, sizeRefusal, someLarge, someNotEq, rowUnlike, someUnlike, cellRefusal, firstOf, gridRefusal}
 
 -- ---- refusals 1 and 2
 
@@ -126,3 +127,20 @@ first-here a b h = simp (ne-eqb a 0 (λ e. omega arith))
 
 pub first-next : (a b : ℕ) → a ≡ 0 → firstOf a b ≡ b
 first-next a b e = simp (eq-eqb a 0 e)
+
+-- none of two refusals
+pub first-none : (a b : ℕ) → firstOf a b ≡ 0 → (a ≡ 0) × (b ≡ 0)
+first-none a b e = go (ℕ-discrete a 0)
+  where
+    go : Dec (a ≡ 0) → (a ≡ 0) × (b ≡ 0)
+    go (yes z) = (z, sym (first-next a b z) ∙ e)
+    go (no nz) = absurd (nz (sym (first-here a b (omega arith)) ∙ e))
+
+-- a grid that meets no refusal is accepted
+pub accepted-grid : (n : ℕ) (g : List ℕ) → gridRefusal n g ≡ 0 → Accepted n g
+accepted-grid n g e = let w = first-none (sizeRefusal n g) (cellRefusal n g) e in accepted n g (w .0) (w .1)
+
+pub never-refused-grid : (n : ℕ) (g : List ℕ) → Accepted n g → gridRefusal n g ≡ 0
+never-refused-grid n g a =
+    let w = never-refused n g a in
+    first-next (sizeRefusal n g) (cellRefusal n g) (w .0) ∙ w .1

@@ -5,7 +5,7 @@ use Prim.Native.Nat.{ℕ, zero, suc, _+_, _*_, _/_, _%_, _≤_, _<_}
 use native.Mathlib.Nat.{mul-le-mul, zero-lt-suc, mod-lt, div-add-mod', div-lt-iff-lt-mul}
 use native.Mathlib.Omega.{arith}
 use lib.Arith.{digits-lt, digits-div, digits-mod}
-use lib.ListN.{length, getD, set, length-set}
+use lib.ListN.{length, getD, set, length-set, replicate}
 use lib.Seq.{getD-set-same, getD-set-other}
 use Rattle.grid.specs.Cells.{cell, put, putBoth}
 
@@ -57,6 +57,17 @@ module _ (turn : ℕ → ℕ) (n : ℕ) (g : List ℕ) (fits : n * n ≤ length 
   unfolding putBoth
   cell-both-other x y hy p q =
       cell-put-other n (put n g i j a) fits-put j i (turn a) hj hi x y hy q ∙ cell-put-other n g fits i j a hi hj x y hy p
+
+-- ---- a cleared grid
+
+zeros : (k p : ℕ) → _≡_ {A = ℕ} (getD (replicate k 0) p 0) 0
+zeros zero p = refl
+zeros (suc k) zero = refl
+zeros (suc k) (suc p) = zeros k p
+
+pub cell-cleared : (n k i j : ℕ) → cell n (replicate k 0) i j ≡ 0
+unfolding cell
+cell-cleared n k i j = zeros k (i * n + j)
 
 -- ---- from a place to its cell
 

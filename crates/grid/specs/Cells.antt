@@ -1,7 +1,10 @@
 -- Document 01, "Grids": a grid of n events is a list of sets; cell (i, j) is at place i * n + j. Assumes nothing.
+use mathlib.Core.Bool.{Bool}
 use mathlib.Core.List.{List}
-use Prim.Native.Nat.{ℕ, _+_, _*_}
-use lib.ListN.{getD, set}
+use Prim.Native.Nat.{ℕ, _+_, _*_, _≤_}
+use lib.Dec.{eqb}
+use lib.ListN.{length, getD, set}
+use Rattle.relation.specs.Sets.{some}
 
 -- the set for i to j
 unfoldable pub cell : ℕ → List ℕ → ℕ → ℕ → ℕ
@@ -13,3 +16,12 @@ put n g i j a = set g (i * n + j) a
 -- a set for i to j, and its mirror: the set turned round, by `turn`
 unfoldable pub putBoth : (ℕ → ℕ) → ℕ → List ℕ → ℕ → ℕ → ℕ → List ℕ
 putBoth turn n g i j a = put n (put n g i j a) j i (turn a)
+
+-- a grid of n events has its room
+pub record Held (n : ℕ) (g : List ℕ) : Type 0 where
+  pub few : n ≤ 32
+  pub fits : n * n ≤ length g
+
+-- some cell is empty
+abbrev pub someEmpty : List ℕ → Bool
+someEmpty g = some (length g) (λ p. eqb (getD g p 0) 0)

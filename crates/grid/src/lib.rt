@@ -1,9 +1,9 @@
 // Grids: where a cell stands, and which grids are accepted.
 ghost use mathlib.Core.Path.{_≡_};
 ghost use Prim.Native.Nat.{_*_, _≤_, _<_};
-ghost use lib.ListN.{length};
+ghost use lib.ListN.{length, replicate};
 ghost use Rattle.relation.specs.Composition.{converse};
-ghost use Rattle.grid.specs.Cells.{cell, put, putBoth};
+ghost use Rattle.grid.specs.Cells.{cell, put, putBoth, someEmpty};
 ghost use Rattle.grid.specs.Accepted.{sizeRefusal, cellRefusal, gridRefusal, someLarge, someNotEq, rowUnlike, someUnlike, judgedNumber};
 use refusal::Refusal;
 
@@ -44,6 +44,31 @@ pub fn put_both(g: &mut [u16], n: usize, i: usize, j: usize, a: u16)
     let turned = relation::converse_of(a);
     put(g, n, i, j, a);
     put(g, n, j, i, turned);
+}
+
+// Some cell is empty.
+pub fn some_empty(g: &[u16]) -> bool
+    ensures { λ r. ⌜ r ≡ someEmpty (now (g .entry)) ⌝ }
+{
+    let mut p = 0;
+    while p < g.len() {
+        if g[p] == 0 {
+            return true;
+        }
+        p += 1;
+    }
+    false
+}
+
+// Every cell becomes empty.
+pub fn clear(g: &mut [u16])
+    ensures { λ r. ⌜ now (g .exit) ≡ replicate (length (now (g .entry))) 0 ⌝ }
+{
+    let mut p = 0;
+    while p < g.len() {
+        g[p] = 0;
+        p += 1;
+    }
 }
 
 // Refusals 1 and 2 of a grid.

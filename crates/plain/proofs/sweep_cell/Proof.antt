@@ -1,0 +1,81 @@
+-- The routes so far, and then one more.
+use mathlib.Core.Path.{_≡_, subst}
+use Prim.Native.Nat.{ℕ, _≤_, _<_, _-_}
+use lib.Count.{ones}
+use lib.ListN.{length}
+use Rattle.theory.specs.Allen.{allen}
+use Rattle.theory.specs.Sweeps.{Progress}
+use Rattle.theory.proofs.PlainLaws.{dead-then}
+use Rattle.plain.specs.Routes.{CellTo}
+use Rattle.plain.proofs.RouteLaws.{pass-dead, pass-moved, nothing, cell-next}
+use borrow.Author.Needs.{needs}
+use native.Mathlib.Omega.{arith}
+use Rattle.plain.proofs.sweep_cell.Statement.{statement}
+use Rattle.plain.proofs.sweep_cell.Tie as tie
+
+abbrev Inv-loop : tie.InvT-loop
+Inv-loop rows g₀ n a b changed₀ k₀ g changed k = (k ≤ n) × (length g ≡ length g₀) × Progress allen ones n (CellTo n a b k) g₀ g changed
+
+abbrev μ-loop : tie.MeasureT-loop
+μ-loop rows g₀ n a b changed₀ k₀ g changed k = n - k
+
+loop-holds : tie.Need-loop-holds Inv-loop μ-loop
+loop-holds c = (search needs, search needs, nothing _ _ _ (c .before .pre .3) (λ a m b u. omega (arith, u .1)))
+
+cut-by-route-requires : tie.Need-cut-by-route-requires Inv-loop μ-loop
+cut-by-route-requires c κs = let s = c .before .before .before .before .pre in (s .0, s .1, s .2, c .before .loop-test .taken, search needs)
+
+enum-known-one : tie.Need-enum-known-one Inv-loop μ-loop
+enum-known-one c = search needs
+
+enum-told : tie.Need-enum-told Inv-loop μ-loop
+enum-told c = search needs
+
+same-length : tie.Need-same-length Inv-loop μ-loop
+same-length c = search needs
+
+returns : tie.Need-returns Inv-loop μ-loop
+returns c = dead-then _ _ _ _ (c .before .before .before .before .before .before .before .loop .inv .2 .cuts) (pass-dead _ _ _ _ _ (c .before .before .before .before .cut-by-route .ensures) (c .enum-told .given .1))
+
+either-requires : tie.Need-either-requires Inv-loop μ-loop
+either-requires c κs = search needs
+
+add-k : tie.Need-add-k Inv-loop μ-loop
+add-k c = search needs
+
+loop-less : tie.Need-loop-less Inv-loop μ-loop
+loop-less c = search needs
+
+loop-again : tie.Need-loop-again Inv-loop μ-loop
+loop-again c =
+    let h = pass-moved _ _ _ _ _ _ (c .before .before .before .before .before .before .cut-by-route .ensures) (c .before .before .one .given .1) in
+    (search needs, search needs, rw (c .either .ensures) (cell-next _ _ _ _ _ _ (c .before .before .before .before .before .before .before .before .before .before .before .pre .3) _ _ _ (c .before .before .before .before .before .before .before .before .before .loop .inv .2) h))
+
+same-length-2 : tie.Need-same-length-2 Inv-loop μ-loop
+same-length-2 c = search needs
+
+returns-2 : tie.Need-returns-2 Inv-loop μ-loop
+returns-2 c =
+    let v = c .before .loop in
+    let s = c .before .before .before .args in
+    let e : v .k ≡ s .n = omega arith in
+    subst (λ (k : ℕ). Progress allen ones (s .n) (CellTo (s .n) (s .a) (s .b) k) (s .g .now) (v .g) (v .changed)) e (v .inv .2)
+
+pub sweep-cell-spec : {M : Type 1} → statement M
+sweep-cell-spec =
+    tie.close
+    (tie.spec
+    Inv-loop
+    μ-loop
+    loop-holds
+    cut-by-route-requires
+    enum-known-one
+    enum-told
+    same-length
+    returns
+    either-requires
+    add-k
+    loop-less
+    loop-again
+    same-length-2
+    returns-2)

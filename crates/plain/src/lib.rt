@@ -1,0 +1,143 @@
+// Plain closing of a grid: sweeps over all routes until one changes nothing.
+ghost use mathlib.Core.Path.{_≡_};
+ghost use Prim.Native.Nat.{_<_};
+ghost use Rattle.relation.specs.HalfRows.{HalfRows};
+ghost use Rattle.grid.specs.Cells.{Held};
+ghost use Rattle.grid.specs.Accepted.{Accepted};
+ghost use Rattle.theory.specs.Sweeps.{orb};
+ghost use Rattle.plain.specs.Answers.{PlainCloses};
+ghost use Rattle.plain.specs.Routes.{OneRoute, CellTo, RowTo, AllTo, Pass, Sweeps};
+use grid::Judged;
+use refusal::Refusal;
+
+pub enum PlainAnswer {
+    Closed,
+    Contradiction,
+    Refused(Refusal),
+}
+
+// A route left nothing, or whether a part of a sweep changed something.
+pub enum Swept {
+    Dead,
+    Moved(bool),
+}
+
+// Closes the lent grid of n events.
+pub fn plain_close(g: &mut [u16], n: usize) -> PlainAnswer
+    ensures { λ r. ⌜ PlainCloses n (now (g .entry)) r (now (g .exit)) ⌝ }
+{
+    let judged = grid::judge(g, n);
+    match judged {
+        Judged::Refused(r) => PlainAnswer::Refused(r),
+        Judged::Accepted => {
+            let rows = relation::half_rows();
+            sweep_accepted(&rows, g, n)
+        }
+    }
+}
+
+// Sweeps an accepted grid until a sweep changes nothing.
+fn sweep_accepted(rows: &[u16; 2496], g: &mut [u16], n: usize) -> PlainAnswer
+    requires { ⌜ HalfRows (now rows) × Accepted n (now g) ⌝ }
+    ensures { λ r. ⌜ Sweeps n (now (g .entry)) r (now (g .exit)) ⌝ }
+{
+    if grid::some_empty(g) {
+        grid::clear(g);
+        return PlainAnswer::Contradiction;
+    }
+    loop {
+        let one = sweep_all(rows, g, n);
+        let Swept::Moved(changed) = one else {
+            grid::clear(g);
+            return PlainAnswer::Contradiction;
+        };
+        if !changed {
+            return PlainAnswer::Closed;
+        }
+    }
+}
+
+// One sweep.
+fn sweep_all(rows: &[u16; 2496], g: &mut [u16], n: usize) -> Swept
+    requires { ⌜ HalfRows (now rows) × Held n (now g) ⌝ }
+    ensures { λ r. ⌜ Pass n (AllTo n n) (now (g .entry)) r (now (g .exit)) ⌝ }
+{
+    let mut changed = false;
+    let mut i = 0;
+    while i < n {
+        let one = sweep_row(rows, g, n, i);
+        let Swept::Moved(now) = one else {
+            return Swept::Dead;
+        };
+        changed = either(changed, now);
+        i += 1;
+    }
+    Swept::Moved(changed)
+}
+
+// The part of a sweep from event a.
+fn sweep_row(rows: &[u16; 2496], g: &mut [u16], n: usize, a: usize) -> Swept
+    requires { ⌜ HalfRows (now rows) × (a < n) × Held n (now g) ⌝ }
+    ensures { λ r. ⌜ Pass n (RowTo n a n) (now (g .entry)) r (now (g .exit)) ⌝ }
+{
+    let mut changed = false;
+    let mut j = a + 1;
+    while j < n {
+        let one = sweep_cell(rows, g, n, a, j);
+        let Swept::Moved(now) = one else {
+            return Swept::Dead;
+        };
+        changed = either(changed, now);
+        j += 1;
+    }
+    Swept::Moved(changed)
+}
+
+// The part of a sweep from event a to event b.
+fn sweep_cell(rows: &[u16; 2496], g: &mut [u16], n: usize, a: usize, b: usize) -> Swept
+    requires { ⌜ HalfRows (now rows) × (a < b) × (b < n) × Held n (now g) ⌝ }
+    ensures { λ r. ⌜ Pass n (CellTo n a b n) (now (g .entry)) r (now (g .exit)) ⌝ }
+{
+    let mut changed = false;
+    let mut k = 0;
+    while k < n {
+        let one = cut_by_route(rows, g, n, a, k, b);
+        let Swept::Moved(now) = one else {
+            return Swept::Dead;
+        };
+        changed = either(changed, now);
+        k += 1;
+    }
+    Swept::Moved(changed)
+}
+
+// Cuts (a, b) to what (a, m) with (m, b) allows.
+fn cut_by_route(rows: &[u16; 2496], g: &mut [u16], n: usize, a: usize, m: usize, b: usize) -> Swept
+    requires { ⌜ HalfRows (now rows) × (a < b) × (b < n) × (m < n) × Held n (now g) ⌝ }
+    ensures { λ r. ⌜ Pass n (OneRoute n a m b) (now (g .entry)) r (now (g .exit)) ⌝ }
+{
+    if m == a {
+        return Swept::Moved(false);
+    }
+    if m == b {
+        return Swept::Moved(false);
+    }
+    let old = grid::get(g, n, a, b);
+    let am = grid::get(g, n, a, m);
+    let mb = grid::get(g, n, m, b);
+    let new = old & relation::compose_by_rows(rows, am, mb);
+    if new == old {
+        return Swept::Moved(false);
+    }
+    if new == 0 {
+        return Swept::Dead;
+    }
+    grid::put_both(g, n, a, b, new);
+    Swept::Moved(true)
+}
+
+fn either(a: bool, b: bool) -> bool
+    ensures { λ r. ⌜ r ≡ orb a b ⌝ }
+{
+    if a { true } else { b }
+}

@@ -1,0 +1,89 @@
+// Quick closing of a grid.
+ghost use mathlib.Core.Path.{_≡_};
+ghost use Prim.Native.Nat.{_+_, _≤_, _<_};
+ghost use Rattle.relation.specs.HalfRows.{HalfRows};
+ghost use Rattle.grid.specs.Accepted.{Accepted};
+ghost use Rattle.theory.specs.Line.{allPairs, rowsTo};
+ghost use Rattle.takes.specs.Waiting.{Waiting};
+ghost use Rattle.takes.specs.Steps.{Waits, waitingIn};
+ghost use Rattle.quick.specs.Answers.{quickRule, QuickCloses};
+ghost use Rattle.quick.specs.Steps.{Shows};
+use grid::Judged;
+use refusal::Refusal;
+use takes::End;
+use takes::Line;
+
+// Closed or contradiction with the takes made, paused with the limit, or a refusal.
+pub enum QuickAnswer {
+    Closed(usize),
+    Contradiction(usize),
+    Paused(usize),
+    Refused(Refusal),
+}
+
+// Closes the lent grid of n events in at most limit takes.
+pub fn quick_close(g: &mut [u16], n: usize, limit: usize) -> QuickAnswer
+    ensures { λ r. ⌜ QuickCloses n limit (now (g .entry)) r (now (g .exit)) ⌝ }
+{
+    let judged = grid::judge(g, n);
+    match judged {
+        Judged::Refused(r) => QuickAnswer::Refused(r),
+        Judged::Accepted => {
+            let rows = relation::half_rows();
+            close_accepted(&rows, g, n, limit)
+        }
+    }
+}
+
+// Closes an accepted grid.
+fn close_accepted(rows: &[u16; 2496], g: &mut [u16], n: usize, limit: usize) -> QuickAnswer
+    requires { ⌜ HalfRows (now rows) × Accepted n (now g) ⌝ }
+    ensures { λ r. ⌜ Shows n (quickRule n limit (now (g .entry))) r (now (g .exit)) ⌝ }
+{
+    if grid::some_empty(g) {
+        grid::clear(g);
+        return QuickAnswer::Contradiction(0);
+    }
+    let mut ring = [0u16; 1024];
+    let mut flag = [0u8; 1024];
+    let all = all_waiting(&mut ring, &mut flag, n);
+    let end = takes::takes(rows, g, &mut ring, &mut flag, n, all, limit);
+    match end {
+        End::Contradiction(t) => {
+            grid::clear(g);
+            QuickAnswer::Contradiction(t)
+        }
+        End::Closed(t) => QuickAnswer::Closed(t),
+        End::Paused(t) => QuickAnswer::Paused(t),
+    }
+}
+
+// The waiting list of all pairs (i, j), i < j, row by row.
+pub fn all_waiting(ring: &mut [u16; 1024], flag: &mut [u8; 1024], n: usize) -> Line
+    requires { ⌜ (n ≤ 32) × Waiting n (now ring) (now flag) 0 0 ⌝ }
+    ensures waits { λ r. ⌜ Waits n (now (ring .exit)) (now (flag .exit)) r ⌝ }
+    ensures all { λ r. ⌜ waitingIn (now (ring .exit)) r ≡ allPairs n ⌝ }
+{
+    let mut at = Line { head: 0, len: 0 };
+    let mut i = 0;
+    while i < n {
+        at = row_waiting(ring, flag, n, at, i);
+        i += 1;
+    }
+    at
+}
+
+// The pairs of row i join.
+fn row_waiting(ring: &mut [u16; 1024], flag: &mut [u8; 1024], n: usize, l: Line, i: usize) -> Line
+    requires { ⌜ (n ≤ 32) × (i < n) × Waits n (now ring) (now flag) l × (waitingIn (now ring) l ≡ rowsTo n i) ⌝ }
+    ensures waits { λ r. ⌜ Waits n (now (ring .exit)) (now (flag .exit)) r ⌝ }
+    ensures rows { λ r. ⌜ waitingIn (now (ring .exit)) r ≡ rowsTo n (i + 1) ⌝ }
+{
+    let mut at = l;
+    let mut j = i + 1;
+    while j < n {
+        at = takes::join(ring, flag, n, at, i * 32 + j);
+        j += 1;
+    }
+    at
+}

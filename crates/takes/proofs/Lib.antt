@@ -1,0 +1,2 @@
+pub mod WaitingLaws
+pub mod StepsLaws

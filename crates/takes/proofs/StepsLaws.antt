@@ -1,0 +1,45 @@
+-- From the code's answer to the step that it shows. Assumes nothing.
+use mathlib.Core.Path.{_≡_, refl, _∙_, sym, ap, subst}
+use mathlib.Core.List.{List}
+use Prim.Native.Nat.{ℕ, zero, suc, _*_, _≤_, _<_}
+use native.Mathlib.Omega.{arith}
+use lib.Bits.{bitAnd}
+use lib.ListN.{length}
+use Rattle.relation.specs.Composition.{compose}
+use Rattle.grid.specs.Cells.{cell}
+use Rattle.theory.specs.Allen.{allen}
+use Rattle.theory.specs.Quick.{Out, dead, going, shrunk, cut, paused, closed}
+use Rattle.theory.proofs.StepLaws.{rest, rest-paused, rest-closed}
+use Rattle.takes.specs.Waiting.{queueOf}
+use Rattle.takes.specs.Steps.{seen, Sound, Steps, Waits, waitingIn}
+use Rattle.takes.specs.declared.Line.{Line}
+use Rattle.takes.specs.declared.Cut.{Cut}
+use Rattle.takes.specs.declared.Cut.the-variants.{Dead, Going}
+
+-- a cut, from the cells read and the composition made
+pub cut-is : (n a m b : ℕ) (g q : List ℕ) (old am mb r : ℕ) → old ≡ cell n g a b → am ≡ cell n g a m → mb ≡ cell n g m b → r ≡ compose am mb
+    → cut allen n a m b g q ≡ shrunk allen n a b old (bitAnd old r) g q
+unfolding cut
+cut-is n a m b g q old am mb r e₁ e₂ e₃ e₄ = rw (e₄, e₂, e₃, e₁)
+
+module _ (n : ℕ) (o : Out) (r : Cut) (g ring flag : List ℕ) (s : Steps n o r g ring flag) where
+  pub is-dead : r ≡ Dead → o ≡ dead
+  is-dead e = sym (s .same) ∙ ap (λ (x : Cut). seen x g ring) e
+
+  module _ (l : Line) (e : r ≡ Going l) where
+    pub is-going : o ≡ going g (waitingIn ring l)
+    is-going = sym (s .same) ∙ ap (λ (x : Cut). seen x g ring) e
+
+    pub is-sound : Waits n ring flag l
+    is-sound = subst (λ (x : Cut). Sound n x ring flag) e (s .sound)
+
+-- a run at its limit, and one with nothing left to take
+pub stopped : (n limit t : ℕ) (g ring : List ℕ) (h l : ℕ) → 0 < l → t ≡ limit → rest allen n limit t g (queueOf ring h l) ≡ paused t g
+unfolding queueOf
+stopped n limit t g ring h (suc l) pos e = rw e (rest-paused allen n limit g _ _)
+stopped n limit t g ring h zero pos e = absurd (omega arith)
+
+pub finished : (n limit t : ℕ) (g ring : List ℕ) (h l : ℕ) → l ≤ 0 → rest allen n limit t g (queueOf ring h l) ≡ closed t g
+unfolding queueOf
+finished n limit t g ring h zero e = rest-closed allen n limit t g
+finished n limit t g ring h (suc l) e = absurd (omega arith)

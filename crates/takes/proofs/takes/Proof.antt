@@ -1,0 +1,94 @@
+-- The takes left, from the grid and list as they are, come to the whole run.
+use mathlib.Core.Path.{_≡_, ap, sym, _∙_}
+use Prim.Native.Nat.{_≤_, _-_}
+use lib.ListN.{length}
+use Rattle.theory.specs.Allen.{allen}
+use Rattle.theory.specs.Quick.{run}
+use Rattle.theory.proofs.StepLaws.{rest, rest-all, rest-dead, rest-going}
+use Rattle.takes.specs.Steps.{Waits, waitingIn}
+use Rattle.takes.proofs.StepsLaws.{is-dead, is-going, is-sound, stopped, finished}
+use borrow.Author.Needs.{needs}
+use native.Mathlib.Omega.{arith}
+use Rattle.takes.proofs.takes.Statement.{statement}
+use Rattle.takes.proofs.takes.Tie as tie
+
+abbrev Inv-loop : tie.InvT-loop
+Inv-loop rows g₀ ring₀ flag₀ n limit at₀ t₀ g ring flag at t =
+    (t ≤ limit) × (length g ≡ length g₀) × Waits n ring flag at
+    × (rest allen n limit t g (waitingIn ring at) ≡ run allen n limit 0 g₀ (waitingIn ring₀ at₀))
+
+abbrev μ-loop : tie.MeasureT-loop
+μ-loop rows g₀ ring₀ flag₀ n limit at₀ t₀ g ring flag at t = limit - t
+
+loop-holds : tie.Need-loop-holds Inv-loop μ-loop
+loop-holds c = (search needs, search needs, c .before .pre .2, rest-all _ _ _ _ _)
+
+same-length : tie.Need-same-length Inv-loop μ-loop
+same-length c = search needs
+
+returns : tie.Need-returns Inv-loop μ-loop
+returns c = sym (stopped _ _ _ _ _ _ _ (c .before .if1 .taken) (c .if2 .taken)) ∙ c .before .before .before .loop .inv .3
+
+leave-requires : tie.Need-leave-requires Inv-loop μ-loop
+leave-requires c κs = (c .before .before .before .before .before .before .before .pre .1 .few, c .before .before .before .if1 .taken, c .before .before .before .before .before .loop .inv .2)
+
+add-t : tie.Need-add-t Inv-loop μ-loop
+add-t c = search needs
+
+take-pair-requires : tie.Need-take-pair-requires Inv-loop μ-loop
+take-pair-requires c κs =
+    let e = c .before .before .before .before .leave .ensures in
+    (c .before .before .before .before .before .before .before .before .before .before .before .before .pre .0, omega (arith, e .pair), omega (arith, e .pair), omega (arith, e .pair), search needs, e .waiting)
+
+enum-known-one : tie.Need-enum-known-one Inv-loop μ-loop
+enum-known-one c = search needs
+
+enum-told : tie.Need-enum-told Inv-loop μ-loop
+enum-told c = search needs
+
+same-length-2 : tie.Need-same-length-2 Inv-loop μ-loop
+same-length-2 c = search needs
+
+returns-2 : tie.Need-returns-2 Inv-loop μ-loop
+returns-2 c =
+    sym (rest-dead _ _ _ _ _ _ _ (omega (arith, c .before .before .before .before .before .before .before .before .before .before .before .before .before .before .before .loop .inv .0, c .before .before .before .before .before .before .before .before .before .before .before .before .if2 .left)) (is-dead _ _ _ _ _ _ (c .before .before .before .before .take-pair .ensures) (c .enum-told .given .1)))
+    ∙ sym (ap (rest _ _ _ _ _) (c .before .before .before .before .before .before .before .before .before .leave .ensures .was)) ∙ c .before .before .before .before .before .before .before .before .before .before .before .before .before .before .before .loop .inv .3
+
+loop-less : tie.Need-loop-less Inv-loop μ-loop
+loop-less c = search needs
+
+loop-again : tie.Need-loop-again Inv-loop μ-loop
+loop-again c = (
+  omega (arith, c .before .before .before .before .before .before .before .before .before .before .before .before .before .before .before .before .loop .inv .0, c .before .before .before .before .before .before .before .before .before .before .before .before .before .if2 .left),
+  search needs,
+  is-sound _ _ _ _ _ _ (c .before .before .before .before .before .take-pair .ensures) _ (c .before .one .given .1),
+  sym (rest-going _ _ _ _ _ _ _ (omega (arith, c .before .before .before .before .before .before .before .before .before .before .before .before .before .before .before .before .loop .inv .0, c .before .before .before .before .before .before .before .before .before .before .before .before .before .if2 .left)) _ _ (is-going _ _ _ _ _ _ (c .before .before .before .before .before .take-pair .ensures) _ (c .before .one .given .1)))
+      ∙ sym (ap (rest _ _ _ _ _) (c .before .before .before .before .before .before .before .before .before .before .leave .ensures .was)) ∙ c .before .before .before .before .before .before .before .before .before .before .before .before .before .before .before .before .loop .inv .3,
+)
+
+same-length-3 : tie.Need-same-length-3 Inv-loop μ-loop
+same-length-3 c = search needs
+
+returns-3 : tie.Need-returns-3 Inv-loop μ-loop
+returns-3 c = sym (finished _ _ _ _ _ _ _ (c .if1 .left)) ∙ c .before .before .loop .inv .3
+
+pub takes-spec : {M : Type 1} → statement M
+takes-spec =
+    tie.close
+    (tie.spec
+    Inv-loop
+    μ-loop
+    loop-holds
+    same-length
+    returns
+    leave-requires
+    add-t
+    take-pair-requires
+    enum-known-one
+    enum-told
+    same-length-2
+    returns-2
+    loop-less
+    loop-again
+    same-length-3
+    returns-3)

@@ -1,0 +1,44 @@
+-- An accepted grid is what the theory of closing starts from. Assumes nothing.
+use mathlib.Core.Path.{_≡_, ap, _∙_}
+use mathlib.Core.Bool.{true, false}
+use mathlib.Core.List.{List}
+use Prim.Native.Nat.{ℕ, _+_, _*_, _/_, _%_, _<_}
+use native.Mathlib.Omega.{arith}
+use borrow.Author.Tests.{eqb-true, eqb-false}
+use lib.Dec.{T, eqb}
+use lib.ListN.{length, getD}
+use Rattle.relation.proofs.Tested.{T-of, of-T, some-at}
+use Rattle.grid.specs.Cells.{cell, someEmpty}
+use Rattle.grid.specs.Accepted.{Accepted}
+use Rattle.grid.proofs.CellLaws.{place, found}
+use Rattle.grid.proofs.AcceptedLaws.{none-passes}
+use Rattle.theory.specs.Allen.{allen}
+use Rattle.theory.proofs.QuickRight.{Fine, Full}
+use Rattle.theory.proofs.MeetLaws.{sub-top}
+
+pub fine : (n : ℕ) (g : List ℕ) → Accepted n g → Fine allen n g
+fine n g a =
+    record {
+      few = a .few;
+      fits = omega (arith, a .long);
+      mirrored = a .mirrored;
+      diagonal = a .diagonal;
+      topped = λ i j hi hj. sub-top (cell n g i j) (a .small i j hi hj);
+    }
+
+module _ (n : ℕ) (g : List ℕ) (a : Accepted n g) where
+  -- no cell is empty
+  pub full : someEmpty g ≡ false → Full n g
+  unfolding cell
+  full e i j hi hj z =
+      let p = place (a .few) hi hj in
+      eqb-false (cell n g i j) 0
+      (none-passes (length g) (λ p. eqb (getD g p 0) 0) e (i * n + j) (omega (arith, p .inside, a .long))) z
+
+  -- some cell is empty
+  pub hole : someEmpty g ≡ true → (i : ℕ) × (j : ℕ) × (i < n) × (j < n) × (cell n g i j ≡ 0)
+  unfolding cell
+  hole e =
+      let w = some-at (length g) (λ p. eqb (getD g p 0) 0) (T-of e) in
+      let f = found n (w .0) (omega (arith, w .1, a .long)) in
+      (w .0 / n, w .0 % n, f .row, f .column, ap (λ (p : ℕ). getD g p 0) (f .back) ∙ eqb-true (getD g (w .0) 0) 0 (of-T (eqb (getD g (w .0) 0) 0) (w .2)))

@@ -1,0 +1,14 @@
+pub mod Lawful
+pub mod ClosingLaws
+pub mod LineLaws
+pub mod QuickLaws
+pub mod KeepLaws
+pub mod SettledLaws
+pub mod StartLaws
+pub mod TakeLaws
+pub mod QuickRight
+pub mod PlainLaws
+pub mod StepLaws
+pub mod MeetLaws
+pub mod AllenLaws
+pub mod GivenLaws

@@ -1,0 +1,37 @@
+-- How a cut and a turn go, case by case. Assumes nothing.
+use mathlib.Core.Path.{_≡_, refl, ap, _∙_}
+use mathlib.Core.List.{List, [], _∷_}
+use mathlib.Core.Bool.{Bool, true, false}
+use Prim.Native.Nat.{ℕ, zero, suc, _+_, _/_, _%_}
+use borrow.Author.Tests.{eq-eqb, ne-eqb}
+use lib.Dec.{eqb}
+use Rattle.grid.specs.Cells.{cell, put, putBoth}
+use Rattle.theory.specs.Calculus.{Calculus}
+use Rattle.theory.specs.Line.{joins, pairOf}
+use Rattle.theory.specs.Quick.{Out, dead, going, andThen, shrunk, cut, cutBack, turn}
+
+module _ (A : Calculus) (n a b old v : ℕ) (g q : List ℕ) where
+  pub shrunk-same : v ≡ old → shrunk A n a b old v g q ≡ going g q
+  unfolding shrunk
+  shrunk-same e = simp (eq-eqb v old e)
+
+  pub shrunk-dead : (v ≡ old → ⊥) → v ≡ 0 → shrunk A n a b old v g q ≡ dead
+  unfolding shrunk
+  shrunk-dead ne z = simp (ne-eqb v old ne, eq-eqb v 0 z)
+
+  pub shrunk-written : (v ≡ old → ⊥) → (v ≡ 0 → ⊥) → shrunk A n a b old v g q ≡ going (putBoth (A .conv) n g a b v) (joins (pairOf a b) q)
+  unfolding shrunk
+  shrunk-written ne nz = simp (ne-eqb v old ne, ne-eqb v 0 nz)
+
+module _ (A : Calculus) (n i j k : ℕ) (g q : List ℕ) where
+  pub turn-skip-i : k ≡ i → turn A n i j k g q ≡ going g q
+  unfolding turn
+  turn-skip-i e = simp (eq-eqb k i e)
+
+  pub turn-skip-j : (k ≡ i → ⊥) → k ≡ j → turn A n i j k g q ≡ going g q
+  unfolding turn
+  turn-skip-j ne e = simp (ne-eqb k i ne, eq-eqb k j e)
+
+  pub turn-is : (k ≡ i → ⊥) → (k ≡ j → ⊥) → turn A n i j k g q ≡ andThen (cut A n i j k g q) (cutBack A n i j k)
+  unfolding turn
+  turn-is ni nj = simp (ne-eqb k i ni, ne-eqb k j nj)

@@ -1,0 +1,6 @@
+pub mod Calculus
+pub mod Closing
+pub mod Line
+pub mod Quick
+pub mod Sweeps
+pub mod Allen
