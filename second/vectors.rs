@@ -290,7 +290,7 @@ fn add_search(vectors: &mut Vectors, n: u32, allowance: u32, cells: &[u16], numb
     put_u32(&mut vectors.cases, numbers as u32);
     put_u16s(&mut vectors.cases, cells);
 
-    let mut room: Placing = (0..numbers as i32).map(|i| -7 - i).collect();
+    let mut room: Placing = vec![-7; numbers];
     let (kind, value) = match search(n, allowance, cells, &mut room) {
         Ok(Answer::Placed { tries }) => (0, tries),
         Ok(Answer::None { tries }) => (1, tries),
@@ -448,9 +448,13 @@ pub fn sheets(seed: u64, count: usize) -> Vectors {
             add_sheet(&mut vectors, ROOM_CELLS, ask, sheet);
         }
     }
+    for sheet in full_sheets() {
+        add_sheet(&mut vectors, ROOM_CELLS, 16, &sheet);
+    }
     let edges = sheet_cases::edge_sheets();
     let damaged = sheet_cases::damaged_everywhere(sheet_cases::EXAMPLE.as_bytes());
-    for (i, sheet) in edges.iter().chain(&damaged).enumerate() {
+    let named = edges.iter().chain(&damaged).filter(|sheet| sheet.len() <= MOST_BYTES + 1);
+    for (i, sheet) in named.enumerate() {
         add_sheet(&mut vectors, ROOM_CELLS, i as u32 % 4, sheet);
     }
     vectors.end_of_named();
@@ -464,14 +468,36 @@ pub fn sheets(seed: u64, count: usize) -> Vectors {
     vectors
 }
 
+/// 32 events with up to 999 statements each, as far as 65,536 bytes reach: a good sheet, and one whose
+/// contents list more than it holds. Every event but the last says the same of the last.
+fn full_sheets() -> [Vec<u8>; 2] {
+    let names = b"abcdefghijklmnopqrstuvwxyz012345";
+    let sheet = |counts: &dyn Fn(usize) -> usize| {
+        let mut contents = String::from("32\n");
+        for (i, &name) in names.iter().enumerate() {
+            contents += &format!("{} {}\n", name as char, counts(i));
+        }
+        let most = (MOST_BYTES - contents.len()) / 4;
+        let lines = (0..32).map(counts).sum::<usize>().min(most);
+        (contents + &"b 5\n".repeat(lines)).into_bytes()
+    };
+    [sheet(&|i| [999, 358, 0][usize::from(i > 15) + usize::from(i > 16)]), sheet(&|_| 999)]
+}
+
 fn add_sheet(vectors: &mut Vectors, room: usize, ask: u32, bytes: &[u8]) {
     if !vectors.begin() {
         return;
     }
     put_u32(&mut vectors.cases, room as u32);
     put_u32(&mut vectors.cases, ask);
-    put_u32(&mut vectors.cases, bytes.len() as u32);
-    vectors.cases.extend(bytes);
+    let pieces = pieces_of(bytes);
+    put_u32(&mut vectors.cases, pieces.front.len() as u32);
+    put_u32(&mut vectors.cases, pieces.piece.len() as u32);
+    put_u32(&mut vectors.cases, pieces.times as u32);
+    put_u32(&mut vectors.cases, pieces.back.len() as u32);
+    for part in [pieces.front, pieces.piece, pieces.back] {
+        vectors.cases.extend(part);
+    }
 
     let mut cells: Vec<u16> = (0..room).map(|place| 40_000 + (place % 1_000) as u16).collect();
     let (kind, value, line) = match sheet::read(bytes, &mut cells) {
@@ -482,18 +508,46 @@ fn add_sheet(vectors: &mut Vectors, room: usize, ask: u32, bytes: &[u8]) {
     vectors.answers.push(kind);
     put_u32(&mut vectors.answers, value);
     put_u32(&mut vectors.answers, line);
-    vectors.answers.extend(fnv_1a(&cells).to_le_bytes());
+    put_u32(&mut vectors.answers, checksum(&cells));
     put_u32(&mut vectors.answers, name.start as u32);
     put_u32(&mut vectors.answers, name.length as u32);
+    vectors.answers.extend(name.of(bytes));
 }
 
-/// The 64-bit FNV-1a hash of cells taken as little-endian bytes.
-fn fnv_1a(cells: &[u16]) -> u64 {
-    let mut hash = 0xcbf2_9ce4_8422_2325;
-    for byte in cells.iter().flat_map(|cell| cell.to_le_bytes()) {
-        hash = (hash ^ u64::from(byte)).wrapping_mul(0x100_0000_01b3);
+/// A sheet as three pieces, of which the second is repeated.
+struct Pieces<'a> {
+    front: &'a [u8],
+    piece: &'a [u8],
+    times: usize,
+    back: &'a [u8],
+}
+
+/// The pieces that spare most bytes, by the longest stretch that repeats a piece of at most 32.
+fn pieces_of(bytes: &[u8]) -> Pieces<'_> {
+    let mut best = Pieces { front: bytes, piece: &[], times: 0, back: &[] };
+    let mut spared = 0;
+    for length in 1..=32 {
+        let mut start = 0;
+        while start + length < bytes.len() {
+            let shifted = bytes[start + length..].iter();
+            let alike = shifted.zip(&bytes[start..]).take_while(|(one, other)| one == other).count();
+            let times = 1 + alike / length;
+            if (times - 1) * length > spared {
+                spared = (times - 1) * length;
+                let end = start + times * length;
+                let piece = &bytes[start..start + length];
+                best = Pieces { front: &bytes[..start], piece, times, back: &bytes[end..] };
+            }
+            start += alike + 1;
+        }
     }
-    hash
+    best
+}
+
+/// A checksum of cells in their order.
+fn checksum(cells: &[u16]) -> u32 {
+    let sum = cells.iter().fold(0, |sum, &cell| (sum * 65_599 + u64::from(cell)) % 4_294_967_291);
+    sum as u32
 }
 
 #[cfg(test)]
@@ -501,11 +555,30 @@ mod tests {
     use super::*;
 
     #[test]
-    fn the_hash_is_fnv_1a() {
-        assert_eq!(fnv_1a(&[]), 0xcbf2_9ce4_8422_2325);
-        // The published hash of "foobar".
-        let foobar = [0x6f66, 0x626f, 0x7261];
-        assert_eq!(fnv_1a(&foobar), 0x8594_4171_f739_67e8);
+    fn the_checksum_tells_cells_and_their_order_apart() {
+        assert_eq!(checksum(&[]), 0);
+        assert_eq!(checksum(&[1, 2]), 65_601);
+        assert_ne!(checksum(&[2, 1]), 65_601);
+        assert_eq!(checksum(&[1, 0, 0]), (65_599_u64 * 65_599 % 4_294_967_291) as u32);
+    }
+
+    #[test]
+    fn full_sheets_are_full() {
+        let [good, short] = full_sheets();
+        assert!(good.len() > MOST_BYTES - 4 && good.len() <= MOST_BYTES);
+        assert!(sheet::parse(&good).is_ok_and(|sheet| sheet.grid.at(16, 31) == 1));
+        assert!(short.len() > MOST_BYTES - 4 && sheet::parse(&short).is_err());
+    }
+
+    #[test]
+    fn pieces_make_up_the_sheet() {
+        let long = sheet_cases::sheet_of_length(MOST_BYTES);
+        for sheet in sheet_cases::edge_sheets() {
+            let pieces = pieces_of(&sheet);
+            let middle = pieces.piece.repeat(pieces.times);
+            assert_eq!([pieces.front, &middle, pieces.back].concat(), sheet);
+        }
+        assert!(pieces_of(&long).front.len() < 100);
     }
 
     #[test]
@@ -523,8 +596,6 @@ mod tests {
         assert_eq!((vectors.cases.len(), vectors.answers.len()), (4_000, 6_000));
         let vectors = checks(1, 1_000);
         assert_eq!(vectors.answers.len(), 5_000);
-        let vectors = sheets(1, 500);
-        assert_eq!(vectors.answers.len(), 500 * 25);
     }
 
     #[test]

@@ -1,12 +1,13 @@
 -- Where a cell stands, and what a put changes. Assumes nothing.
 use mathlib.Core.Path.{_≡_, refl, ap, sym, _∙_}
-use mathlib.Core.List.{List}
+use mathlib.Core.List.{List, _++_}
 use Prim.Native.Nat.{ℕ, zero, suc, _+_, _*_, _/_, _%_, _≤_, _<_}
 use native.Mathlib.Nat.{mul-le-mul, zero-lt-suc, mod-lt, div-add-mod', div-lt-iff-lt-mul}
+use native.Mathlib.Numerals.{add-one}
 use native.Mathlib.Omega.{arith}
 use lib.Arith.{digits-lt, digits-div, digits-mod}
-use lib.ListN.{length, getD, set, length-set, replicate}
-use lib.Seq.{getD-set-same, getD-set-other}
+use lib.ListN.{length, getD, set, length-set, take, drop, replicate}
+use lib.Seq.{getD-set-same, getD-set-other, length-take-le, take-suc, drop-cons, append-snoc, set-at}
 use Rattle.grid.specs.Cells.{cell, put, putBoth}
 
 -- a cell's place is inside, and small
@@ -57,6 +58,16 @@ module _ (turn : ℕ → ℕ) (n : ℕ) (g : List ℕ) (fits : n * n ≤ length 
   unfolding putBoth
   cell-both-other x y hy p q =
       cell-put-other n (put n g i j a) fits-put j i (turn a) hj hi x y hy q ∙ cell-put-other n g fits i j a hi hj x y hy p
+
+-- ---- a grid that is copied
+
+-- one more cell of s copied to the front of d
+pub front-more : (d s : List ℕ) (k : ℕ) → k < length d → k < length s → set (take k s ++ drop k d) k (getD s k 0) ≡ take (k + 1) s ++ drop (k + 1) d
+front-more d s k h g =
+    ap (λ (l : List ℕ). set (take k s ++ l) k (getD s k 0)) (drop-cons d k 0 h)
+    ∙ set-at (take k s) (getD d k 0) (drop (suc k) d) (getD s k 0) k (length-take-le k s (omega arith))
+    ∙ sym (append-snoc (take k s) (getD s k 0) (drop (suc k) d))
+    ∙ rw (add-one, take-suc s k 0)
 
 -- ---- a cleared grid
 

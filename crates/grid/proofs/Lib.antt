@@ -1,2 +1,3 @@
 pub mod CellLaws
 pub mod AcceptedLaws
+pub mod JudgedLaws

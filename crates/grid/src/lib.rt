@@ -1,7 +1,8 @@
 // Grids: where a cell stands, and which grids are accepted.
 ghost use mathlib.Core.Path.{_≡_};
+ghost use mathlib.Core.List.{_++_};
 ghost use Prim.Native.Nat.{_*_, _≤_, _<_};
-ghost use lib.ListN.{length, replicate};
+ghost use lib.ListN.{length, take, drop, replicate};
 ghost use Rattle.relation.specs.Composition.{converse};
 ghost use Rattle.grid.specs.Cells.{cell, put, putBoth, someEmpty};
 ghost use Rattle.grid.specs.Accepted.{sizeRefusal, cellRefusal, gridRefusal, someLarge, someNotEq, rowUnlike, someUnlike, judgedNumber};
@@ -68,6 +69,18 @@ pub fn clear(g: &mut [u16])
     while p < g.len() {
         g[p] = 0;
         p += 1;
+    }
+}
+
+// The first m cells become those of another grid.
+pub fn copy(to: &mut [u16], from: &[u16], m: usize)
+    requires { ⌜ (m ≤ length (now to)) × (m ≤ length (now from)) ⌝ }
+    ensures { λ r. ⌜ now (to .exit) ≡ take m (now (from .entry)) ++ drop m (now (to .entry)) ⌝ }
+{
+    let mut k = 0;
+    while k < m {
+        to[k] = from[k];
+        k += 1;
     }
 }
 

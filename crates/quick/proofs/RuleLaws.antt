@@ -6,7 +6,7 @@ use Prim.Native.Nat.{ℕ, zero, suc, zero-le, _+_, _*_, _≤_}
 use native.Mathlib.Nat.{le-mul-of-pos-right, zero-lt-suc}
 use native.Mathlib.Omega.{arith}
 use lib.Count.{ones}
-use lib.ListN.{replicate}
+use lib.ListN.{length, replicate, length-replicate}
 use Rattle.grid.specs.Cells.{cell, someEmpty}
 use Rattle.grid.specs.Accepted.{Accepted}
 use Rattle.grid.proofs.CellLaws.{cell-cleared}
@@ -16,9 +16,9 @@ use Rattle.theory.specs.Line.{allPairs}
 use Rattle.theory.specs.Quick.{Ended, contradiction, closed, paused, run}
 use Rattle.theory.proofs.ClosingLaws.{closing-same}
 use Rattle.theory.proofs.SettledLaws.{Right}
-use Rattle.theory.proofs.TakeLaws.{Bounded}
+use Rattle.theory.proofs.TakeLaws.{Bounded, LeavesLong, run-long}
 use Rattle.theory.proofs.GivenLaws.{fine, full, hole}
-use Rattle.theory.proofs.QuickRight.{empty-right, quick-right, takes-most, takes-bound, takes-most-is, takes-always}
+use Rattle.theory.proofs.QuickRight.{start, empty-right, quick-right, takes-most, takes-bound, takes-most-is, takes-always}
 use Rattle.theory.proofs.AllenLaws.{lawful, eq-lawful, sized}
 use Rattle.quick.specs.Answers.{quickRule, cellsBy}
 
@@ -78,3 +78,19 @@ module _ (n : ℕ) (g : List ℕ) (a : Accepted n g) where
               subst (Bounded limit (takes-most allen lawful n g F (full n g a e) ones sized)) (sym (rule-run n limit g e))
                   (takes-bound allen lawful n g F (full n g a e) ones sized limit),
             )
+
+    -- the cells are as many as before
+    pub rule-long : length (cellsBy n (quickRule n limit g)) ≡ n * n
+    rule-long = go (someEmpty g) refl
+      where
+        ends : (e : Ended) → LeavesLong (length g) e → length (cellsBy n e) ≡ n * n
+        ends (contradiction t) w = length-replicate {A = ℕ} (n * n) 0
+        ends (closed t h) w = w ∙ a .long
+        ends (paused t h) w = w ∙ a .long
+
+        go : (b : Bool) → someEmpty g ≡ b → length (cellsBy n (quickRule n limit g)) ≡ n * n
+        go true e = subst (λ (x : Ended). length (cellsBy n x) ≡ n * n) (sym (rule-empty n limit g e)) (length-replicate {A = ℕ} (n * n) 0)
+        go false e =
+            subst (λ (x : Ended). length (cellsBy n x) ≡ n * n) (sym (rule-run n limit g e))
+            (ends (run allen n limit 0 g (allPairs n))
+            (run-long allen lawful n (a .few) g (length g) limit 0 g (allPairs n) (start allen lawful n g (fine n g a) (full n g a e)) refl))

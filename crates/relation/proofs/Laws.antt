@@ -8,11 +8,12 @@ use lib.Dec.{T, eqb, eqb→eq, eqb-refl, ltb, ltb→lt, lit<}
 use mathlib.Core.List.{List, []}
 use lib.ListN.{getD}
 use lib.Bits.{bitOr, or-lt}
+use Rattle.relation.specs.Comparing.{relOf}
 use Rattle.relation.specs.Meaning.{Event, holds, exchanged}
 use Rattle.relation.specs.Sets.{member, Inside}
 use Rattle.relation.specs.Composition.{Composed, table, entry, converse, composeRow, compose}
 use Rattle.relation.proofs.Tested.{T-of, of-T, all, all-at}
-use Rattle.relation.proofs.Relations.{relOf, relOf-lt, exactly-one, exchanged-holds, holds-found}
+use Rattle.relation.proofs.Relations.{relOf-lt, exactly-one, exchanged-holds, holds-found}
 use Rattle.relation.proofs.TableLaws.{agrees, stands}
 use Rattle.relation.proofs.SetLaws.{member-none, member-mark, same-inside}
 use Rattle.relation.proofs.LowestLaws.{some-member}

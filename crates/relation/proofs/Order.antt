@@ -11,6 +11,7 @@ use lib.ListN.{length}
 use lib.IntN.{ℤ, pos, negsuc}
 use lib.Signed.{ltZ, leZ, _<ℤ_, _≤ℤ_, <ℤ-irrefl, <ℤ-≤ℤ-trans, ltZ-yes, ltZ-no}
 use borrow.Author.Tests.{lt-ltb, le-ltb, ltb-true, ltb-false}
+use Rattle.relation.specs.Comparing.{Order, less, same, more, order}
 use Rattle.relation.proofs.Tested.{T-of, of-T, false-of}
 use Rattle.relation.proofs.Rank.{Weak}
 
@@ -41,16 +42,6 @@ pub <ℤ-trans : {x y z : ℤ} → x <ℤ y → y <ℤ z → x <ℤ z
 <ℤ-trans {x} {y} {z} h k = record { lt = ltZ-trans x y z (h .lt) (k .lt) }
 
 -- ---- comparing two
-
-pub data Order : Type 0 where
-  less : Order
-  same : Order
-  more : Order
-
-abbrev pub order : Bool → Bool → Order
-order true b = less
-order false true = more
-order false false = same
 
 abbrev pub Means : Order → ℤ → ℤ → Type 0
 Means less x y = x <ℤ y

@@ -9,33 +9,9 @@ use lib.Dec.{T, lit<}
 use lib.ListN.{getD}
 use lib.IntN.{ℤ}
 use lib.Signed.{ltZ, _<ℤ_}
+use Rattle.relation.specs.Comparing.{Order, less, same, more, order, relFrom, relBy, relOf}
 use Rattle.relation.specs.Meaning.{Event, holds, exchanged}
-use Rattle.relation.proofs.Order.{Order, less, same, more, order, Means, cmp, cmp-means, cmp-is, <ℤ-trans}
-
--- ---- the relation that holds, found by comparing ends
-
--- X's end to Y's start, Y's end to X's start, start to start, end to end
-abbrev pub relFrom : Order → Order → Order → Order → ℕ
-relFrom less p q u = 0
-relFrom same p q u = 2
-relFrom more less q u = 1
-relFrom more same q u = 3
-relFrom more more less less = 4
-relFrom more more less same = 11
-relFrom more more less more = 9
-relFrom more more same less = 6
-relFrom more more same same = 12
-relFrom more more same more = 7
-relFrom more more more less = 8
-relFrom more more more same = 10
-relFrom more more more more = 5
-
--- by any test for "less": X is a to b, and Y is c to d
-abbrev pub relBy : {A : Type 0} → (A → A → Bool) → A → A → A → A → ℕ
-relBy lt a b c d = relFrom (order (lt b c) (lt c b)) (order (lt d a) (lt a d)) (order (lt a c) (lt c a)) (order (lt b d) (lt d b))
-
-unfoldable pub relOf : Event → Event → ℕ
-relOf X Y = relBy ltZ (X .start) (X .end) (Y .start) (Y .end)
+use Rattle.relation.proofs.Order.{Means, cmp, cmp-means, cmp-is, <ℤ-trans}
 
 -- a statement of each number, by the thirteen and the rest
 pub thirteen : (P : ℕ → Type 0) → P 0 → P 1 → P 2 → P 3 → P 4 → P 5 → P 6 → P 7 → P 8 → P 9 → P 10 → P 11 → P 12
@@ -80,25 +56,27 @@ holds-found X Y =
     (cmp-means (X .end) (Y .start)) (cmp-means (Y .end) (X .start)) (cmp-means (X .start) (Y .start))
     (cmp-means (X .end) (Y .end))
 
-from-lt : (p q u v : Order) → relFrom p q u v < 13
-from-lt less q u v = lit< tt
-from-lt same q u v = lit< tt
-from-lt more less u v = lit< tt
-from-lt more same u v = lit< tt
-from-lt more more less less = lit< tt
-from-lt more more less same = lit< tt
-from-lt more more less more = lit< tt
-from-lt more more same less = lit< tt
-from-lt more more same same = lit< tt
-from-lt more more same more = lit< tt
-from-lt more more more less = lit< tt
-from-lt more more more same = lit< tt
-from-lt more more more more = lit< tt
+relFrom-lt : (p q u v : Order) → relFrom p q u v < 13
+relFrom-lt less q u v = lit< tt
+relFrom-lt same q u v = lit< tt
+relFrom-lt more less u v = lit< tt
+relFrom-lt more same u v = lit< tt
+relFrom-lt more more less less = lit< tt
+relFrom-lt more more less same = lit< tt
+relFrom-lt more more less more = lit< tt
+relFrom-lt more more same less = lit< tt
+relFrom-lt more more same same = lit< tt
+relFrom-lt more more same more = lit< tt
+relFrom-lt more more more less = lit< tt
+relFrom-lt more more more same = lit< tt
+relFrom-lt more more more more = lit< tt
+
+pub relBy-lt : {A : Type 0} (lt : A → A → Bool) (a b c d : A) → relBy lt a b c d < 13
+relBy-lt lt a b c d = relFrom-lt (order (lt b c) (lt c b)) (order (lt d a) (lt a d)) (order (lt a c) (lt c a)) (order (lt b d) (lt d b))
 
 pub relOf-lt : (X Y : Event) → relOf X Y < 13
 unfolding relOf
-relOf-lt X Y =
-    from-lt (cmp (X .end) (Y .start)) (cmp (Y .end) (X .start)) (cmp (X .start) (Y .start)) (cmp (X .end) (Y .end))
+relOf-lt X Y = relBy-lt ltZ (X .start) (X .end) (Y .start) (Y .end)
 
 -- ---- a relation that holds is the one found
 

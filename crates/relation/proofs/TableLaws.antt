@@ -8,12 +8,13 @@ use native.Mathlib.Omega.{arith}
 use lib.Dec.{T, ltb, eqb, eqb→eq, ltb→lt, lt→ltb, lit<}
 use lib.IntN.{ℤ, pos}
 use lib.Signed.{ltZ, _<ℤ_}
+use Rattle.relation.specs.Comparing.{Order, less, same, more, order, relFrom, relBy, relOf}
 use Rattle.relation.specs.Sets.{member, some}
 use Rattle.relation.specs.Meaning.{Event, holds}
 use Rattle.relation.specs.Composition.{Composed, entry}
-use Rattle.relation.proofs.Order.{Order, less, same, more, order, whole}
+use Rattle.relation.proofs.Order.{whole}
 use Rattle.relation.proofs.Rank.{rank, rank-lt, rank-keeps, In, here, there}
-use Rattle.relation.proofs.Relations.{relFrom, relBy, relOf, exactly-one, holds-found}
+use Rattle.relation.proofs.Relations.{exactly-one, holds-found}
 use Rattle.relation.proofs.Tested.{and-left, and-right, when-at, also-at, all, all-at, allPairs, allPairs-at, anyPair, anyPair-at}
 
 -- ---- the test

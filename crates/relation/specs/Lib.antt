@@ -1,4 +1,5 @@
 pub mod Meaning
+pub mod Comparing
 pub mod Sets
 pub mod Composition
 pub mod HalfRows

@@ -12,3 +12,6 @@ pub mod StepLaws
 pub mod MeetLaws
 pub mod AllenLaws
 pub mod GivenLaws
+pub mod SearchLaws
+pub mod TryLaws
+pub mod PlacedLaws

@@ -36,7 +36,7 @@ module _ (A : Calculus) (L : Lawful A) (n : ℕ) (g : List ℕ) (F : Fine A n g)
     pub start-good : Good A n g g
     start-good = record { fits = F .fits; reached = reached-start A L n (cell n g) (F .mirrored); diagonal = F .diagonal; topped = F .topped; full = full }
 
-    start : Resting A n g g (allPairs n)
+    pub start : Resting A n g g (allPairs n)
     start = record { good = start-good; pairs = pairs-all n (F .few); settled = settled-start A n (F .few) g }
 
     -- closed: the largest closed grid inside; contradiction: that grid is empty throughout

@@ -317,3 +317,22 @@ module _ (A : Calculus) (L : Lawful A) (E : EqLawful A) (n : ℕ) (few : n ≤ 3
       go : (o : Out) → Taken A n g₀ o → ((g q : List ℕ) → Resting A n g₀ g q → Right A n g₀ (run A n f (suc t) g q)) → Right A n g₀ (goOn o (contradiction (suc t)) (run A n f (suc t)))
       go dead z r = z
       go (going g' q') R' r = r g' q' R'
+
+-- what a run leaves keeps what every cut keeps
+abbrev pub LeavesGood : Calculus → ℕ → List ℕ → Ended → Type 0
+LeavesGood A n g₀ (contradiction t) = Unit {0}
+LeavesGood A n g₀ (closed t g) = Good A n g₀ g
+LeavesGood A n g₀ (paused t g) = Good A n g₀ g
+
+module _ (A : Calculus) (L : Lawful A) (n : ℕ) (few : n ≤ 32) (g₀ : List ℕ) where
+  pub run-good : (f t : ℕ) (g q : List ℕ) → Resting A n g₀ g q → LeavesGood A n g₀ (run A n f t g q)
+  unfolding run
+  run-good zero t g [] R = R .good
+  run-good zero t g (p ∷ q) R = R .good
+  run-good (suc f) t g [] R = R .good
+  run-good (suc f) t g (p ∷ q) R = go (take A n p g q) (take-ok A L n few g₀ g p q R) (run-good f (suc t))
+    where
+      go : (o : Out) → Taken A n g₀ o → ((g q : List ℕ) → Resting A n g₀ g q → LeavesGood A n g₀ (run A n f (suc t) g q))
+          → LeavesGood A n g₀ (goOn o (contradiction (suc t)) (run A n f (suc t)))
+      go dead z r = tt
+      go (going g' q') R' r = r g' q' R'

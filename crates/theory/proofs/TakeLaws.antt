@@ -7,6 +7,7 @@ use native.Mathlib.Nat.{le-refl}
 use native.Mathlib.Decide.{ℕ-discrete, decLt}
 use lib.ListN.{length, length-append}
 use Rattle.grid.specs.Cells.{cell, putBoth}
+use Rattle.grid.proofs.CellLaws.{putBoth-length}
 use Rattle.theory.specs.Calculus.{Calculus, Sub}
 use Rattle.theory.specs.Line.{joins, pairOf, occurs, allPairs}
 use Rattle.theory.specs.Quick.{cutTo, Out, dead, going, andThen, cut, turn, turns, take, run, goOn, Ended, contradiction, closed, paused}
@@ -213,3 +214,36 @@ module _ (A : Calculus) (L : Lawful A) (size : ℕ → ℕ) (S : Sized A size) (
 
   pub store-most : (g : List ℕ) → Good A n g₀ g → 2 * store size n g (allPairs n) + 13 * n ≤ 13 * (n * n)
   store-most g G = omega (arith, sum-most n 12 (spare size n g) (spare-most g G) (allPairs n) (pairs-all n few), length-all n)
+
+-- ---- a run keeps the length of the grid
+
+abbrev pub LeavesLong : ℕ → Ended → Type 0
+LeavesLong l (contradiction t) = Unit {0}
+LeavesLong l (closed t g) = length g ≡ l
+LeavesLong l (paused t g) = length g ≡ l
+
+module _ (A : Calculus) (L : Lawful A) (n : ℕ) (few : n ≤ 32) (g₀ : List ℕ) (l : ℕ) where
+  abbrev Long : List ℕ → List ℕ → Type 0
+  Long g q = length g ≡ l
+
+  cut-long : (x m y : ℕ) → Distinct n x y m → (g q : List ℕ) → Long g q → Kept Long (cut A n x m y g q)
+  cut-long x m y d g q e = go (came A n x m y g q)
+    where
+      go : {o : Out} → Came A n x m y g q o → Kept Long o
+      go (same z) = e
+      go (emptied z) = tt
+      go (shrank ne nz) = putBoth-length (A .conv) n g x y (cutTo A (cell n g) x m y) ∙ e
+
+  pub run-long : (f t : ℕ) (g q : List ℕ) → Resting A n g₀ g q → length g ≡ l → LeavesLong l (run A n f t g q)
+  unfolding run
+  run-long zero t g [] R e = e
+  run-long zero t g (p ∷ q) R e = e
+  run-long (suc f) t g [] R e = e
+  run-long (suc f) t g (p ∷ q) R e =
+      let ok : IsPair n p = R .pairs p (omega (arith, occurs-cons-same p q)) in
+      go (take A n p g q) (take-ok A L n few g₀ g p q R) (take-keeps A n Long cut-long p ok g q e) (run-long f (suc t))
+    where
+      go : (o : Out) → Taken A n g₀ o → Kept Long o → ((g q : List ℕ) → Resting A n g₀ g q → length g ≡ l → LeavesLong l (run A n f (suc t) g q))
+          → LeavesLong l (goOn o (contradiction (suc t)) (run A n f (suc t)))
+      go dead z k r = tt
+      go (going g' q') R' k r = r g' q' R' k

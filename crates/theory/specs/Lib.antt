@@ -4,3 +4,4 @@ pub mod Line
 pub mod Quick
 pub mod Sweeps
 pub mod Allen
+pub mod Search

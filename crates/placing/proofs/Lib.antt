@@ -1,0 +1,9 @@
+pub mod CountLaws
+pub mod GaplessLaws
+pub mod EarlierLaws
+pub mod PlacingLaws
+pub mod SettleLaws
+pub mod CheckLaws
+mod StepLaws
+mod EntryLaws
+mod SignedLaws

@@ -1,0 +1,4 @@
+pub mod Placing
+pub mod Checking
+pub mod Settling
+pub mod Steps

@@ -1,0 +1,46 @@
+-- Document 01, "The work" and "Looking for a placing": what a placing is, when it meets a grid, and when it has no gaps. Assumes nothing.
+use mathlib.Core.Path.{_≡_}
+use mathlib.Core.List.{List}
+use Prim.Native.Nat.{ℕ, _+_, _*_, _^_, _<_}
+use lib.Dec.{T}
+use lib.ListN.{length, getD}
+use lib.IntN.{ℤ, pos, negsuc}
+use lib.Signed.{_≤ℤ_}
+use Rattle.relation.specs.Meaning.{Event, holds}
+use Rattle.relation.specs.Sets.{member}
+use Rattle.relation.specs.Composition.{converse}
+use Rattle.grid.specs.Cells.{cell}
+
+-- a placing, of whole numbers of any size, meets every cell of a grid
+pub record Meets (n : ℕ) (g : List ℕ) (P : ℕ → Event) : Type 0 where
+  pub each : (i j : ℕ) → i < n → j < n → (r : ℕ) × (r < 13) × T (member r (cell n g i j)) × holds r (P i) (P j)
+
+-- number p of a list
+abbrev pub at : List ℤ → ℕ → ℤ
+at xs p = getD xs p (pos 0)
+
+-- a list gives a placing: start then end, event by event
+pub record Places (n : ℕ) (xs : List ℤ) (P : ℕ → Event) : Type 0 where
+  pub starts : (i : ℕ) → i < n → P i .start ≡ at xs (2 * i)
+  pub ends : (i : ℕ) → i < n → P i .end ≡ at xs (2 * i + 1)
+
+pub record MeetsAt (n : ℕ) (g : List ℕ) (xs : List ℤ) : Type 0 where
+  pub placing : ℕ → Event
+  pub places : Places n xs placing
+  pub meets : Meets n g placing
+
+-- the values are exactly 0, 1, .. up to the largest
+pub record NoGaps (xs : List ℤ) : Type 0 where
+  pub counts : (p : ℕ) → p < length xs → (k : ℕ) × (at xs p ≡ pos k)
+  pub down : (p k : ℕ) → p < length xs → pos k ≤ℤ at xs p → (q : ℕ) × (q < length xs) × (at xs q ≡ pos k)
+
+-- one relation for each pair
+pub record Scenario (n : ℕ) (g : List ℕ) : Type 0 where
+  pub single : (i j : ℕ) → i < n → j < n → (r : ℕ) × (r < 13) × (cell n g i j ≡ 2 ^ r)
+  pub diagonal : (i : ℕ) → i < n → cell n g i i ≡ 4096
+  pub mirrored : (i j : ℕ) → i < n → j < n → cell n g j i ≡ converse (cell n g i j)
+
+-- a number that is not negative; else 0
+abbrev pub naturalOf : ℤ → ℕ
+naturalOf (pos k) = k
+naturalOf (negsuc k) = 0

@@ -1,0 +1,103 @@
+-- From the code's answers to the public statement. Assumes nothing.
+use mathlib.Core.Path.{_≡_, refl, sym, ap, subst, _∙_}
+use mathlib.Core.Bool.{Bool, true, false}
+use mathlib.Core.List.{List, []}
+use Prim.Native.Nat.{ℕ, _*_, _≤_, _<_}
+use native.Mathlib.Omega.{arith}
+use borrow.Author.Tests.{eq-eqb, ne-eqb}
+use lib.Dec.{eqb}
+use lib.IntN.{ℤ}
+use lib.ListN.{length}
+use Rattle.refusal.specs.Numbers.{numberOf}
+use Rattle.refusal.specs.declared.Refusal.{Refusal}
+use Rattle.refusal.proofs.NumberLaws.{number-pos, number-unique}
+use Rattle.grid.specs.Cells.{someEmpty}
+use Rattle.grid.specs.Accepted.{Accepted, sizeRefusal, cellRefusal}
+use Rattle.grid.proofs.AcceptedLaws.{accepted, first-none, size-fine}
+use Rattle.theory.specs.Allen.{allen}
+use Rattle.theory.specs.Line.{allPairs}
+use Rattle.theory.specs.Quick as quick
+use Rattle.theory.specs.Search.{Tried, emptied, closed, Found, none, pairsFrom}
+use Rattle.quick.specs.Answers.{quickRule}
+use Rattle.quick.proofs.RuleLaws.{rule-empty, rule-run}
+use Rattle.placing.specs.Checking.{lengthRefusal}
+use Rattle.placing.proofs.CheckLaws.{lengths}
+use Rattle.search.specs.Rule.{enough, triedBy, searchAt, searchOf, fromClosed}
+use Rattle.search.specs.Answers.{Said, saidOf, searchRefusal, saidBy, roomBy, orRefused, orKept, Meant, Looks}
+use Rattle.search.specs.Steps.{saidWith, Shows, Answers}
+use Rattle.search.specs.declared.Looked.{Looked}
+use Rattle.search.specs.declared.PlaceAnswer.{PlaceAnswer}
+use Rattle.search.specs.declared.PlaceAnswer.the-variants.{Placed, None, GaveUp, Refused}
+use Rattle.search.proofs.SearchRight.{means}
+
+-- ---- the first closing, and the search from it
+
+module _ (n allowance : ℕ) (g : List ℕ) where
+  pub search-empty : someEmpty g ≡ true → searchOf n allowance g ≡ none 0
+  unfolding searchOf
+  search-empty e = ap (λ (x : quick.Ended). fromClosed n allowance (triedBy x)) (rule-empty n enough g e)
+
+  pub search-from : someEmpty g ≡ false → (t : Tried) → t ≡ triedBy (quick.run allen n enough 0 g (allPairs n)) → searchOf n allowance g ≡ fromClosed n allowance t
+  unfolding searchOf
+  search-from e t q = ap (λ (x : quick.Ended). fromClosed n allowance (triedBy x)) (rule-run n enough g e) ∙ ap (fromClosed n allowance) (sym q)
+
+pub answers-none : (n : ℕ) (e : Found) (room : List ℤ) → e ≡ none 0 → Answers n e room (None 0) room
+answers-none n e room q = record { answer = sym (ap saidBy q); room-after = sym (ap (λ (x : Found). roomBy n x room) q) }
+
+pub answers-shown : (n a : ℕ) (e f : Found) (room room' : List ℤ) (l : Looked) (ans : PlaceAnswer) → e ≡ f → Shows n a f room l room'
+    → saidOf ans ≡ saidWith (l .outcome) (l .tries) → Answers n e room ans room'
+answers-shown n a e f room room' l ans q s w =
+    record { answer = w ∙ s .answer ∙ sym (ap saidBy q); room-after = s .room-after ∙ sym (ap (λ (x : Found). roomBy n x room) q) }
+
+-- ---- the public statement
+
+pub refuses : (n a : ℕ) (g : List ℕ) (room : List ℤ) (r : Refusal) → numberOf r ≡ searchRefusal n g (length room) → Looks n a g room (Refused r) room
+refuses n a g room r e =
+    let k = number-pos r in
+    let off : eqb (searchRefusal n g (length room)) 0 ≡ false = ne-eqb (searchRefusal n g (length room)) 0 (λ z. omega arith) in
+    record { answer = simp (off, ← e); room-after = simp off; means = tt }
+
+pub looks : (n a : ℕ) (g : List ℕ) (room room' : List ℤ) (ans : PlaceAnswer) → searchRefusal n g (length room) ≡ 0 → Accepted n g
+    → Answers n (searchOf n a g) room ans room' → Looks n a g room ans room'
+looks n a g room room' ans e acc s =
+    let on : eqb (searchRefusal n g (length room)) 0 ≡ true = eq-eqb (searchRefusal n g (length room)) 0 e in
+    record {
+      answer = s .answer ∙ simp on;
+      room-after = s .room-after ∙ simp on;
+      means = means n g acc a (searchOf n a g) refl ans room room' (s .answer) (s .room-after);
+    }
+
+-- no refusal: the grid is accepted, and the room has 2 * n numbers
+pub record Taken (n : ℕ) (g : List ℕ) (m : ℕ) : Type 0 where
+  pub grid : Accepted n g
+  pub room : m ≡ 2 * n
+
+pub taken : (n : ℕ) (g : List ℕ) (m : ℕ) → searchRefusal n g m ≡ 0 → Taken n g m
+unfolding searchRefusal
+taken n g m e =
+    let w = first-none (lengthRefusal n g m) (cellRefusal n g) e in
+    let l = lengths n g m (w .0) in
+    record { grid = accepted n g (size-fine n g (l .few) (l .long)) (w .1); room = l .numbers }
+
+-- ---- any two outcomes that the statement allows are equal
+
+said-unique : (r s : PlaceAnswer) → saidOf r ≡ saidOf s → r ≡ s
+said-unique (Placed t) (Placed u) e = cc
+said-unique (None t) (None u) e = cc
+said-unique (GaveUp t) (GaveUp u) e = cc
+said-unique (Refused a) (Refused b) e = ap Refused (number-unique a b (cc))
+said-unique (Placed t) (None u) e = let z : _≡_ {A = ℕ} 0 1 = cc in absurd (omega arith)
+said-unique (Placed t) (GaveUp u) e = let z : _≡_ {A = ℕ} 0 1 = cc in absurd (omega arith)
+said-unique (Placed t) (Refused u) e = let z : _≡_ {A = ℕ} 0 1 = cc in absurd (omega arith)
+said-unique (None t) (Placed u) e = let z : _≡_ {A = ℕ} 0 1 = cc in absurd (omega arith)
+said-unique (None t) (GaveUp u) e = let z : _≡_ {A = ℕ} 0 1 = cc in absurd (omega arith)
+said-unique (None t) (Refused u) e = let z : _≡_ {A = ℕ} 0 1 = cc in absurd (omega arith)
+said-unique (GaveUp t) (Placed u) e = let z : _≡_ {A = ℕ} 0 1 = cc in absurd (omega arith)
+said-unique (GaveUp t) (None u) e = let z : _≡_ {A = ℕ} 0 1 = cc in absurd (omega arith)
+said-unique (GaveUp t) (Refused u) e = let z : _≡_ {A = ℕ} 0 1 = cc in absurd (omega arith)
+said-unique (Refused t) (Placed u) e = let z : _≡_ {A = ℕ} 0 1 = cc in absurd (omega arith)
+said-unique (Refused t) (None u) e = let z : _≡_ {A = ℕ} 0 1 = cc in absurd (omega arith)
+said-unique (Refused t) (GaveUp u) e = let z : _≡_ {A = ℕ} 0 1 = cc in absurd (omega arith)
+
+pub looks-unique : (n a : ℕ) (g : List ℕ) (room h k : List ℤ) (r s : PlaceAnswer) → Looks n a g room r h → Looks n a g room s k → (r ≡ s) × (h ≡ k)
+looks-unique n a g room h k r s p q = (said-unique r s (p .answer ∙ sym (q .answer)), p .room-after ∙ sym (q .room-after))

@@ -1,0 +1,5 @@
+pub mod RuleLaws
+pub mod LookLaws
+pub mod TryRight
+pub mod SearchRight
+pub mod FindLaws

@@ -1,0 +1,126 @@
+-- What the code sees at one cell, as steps of the rule. Assumes nothing.
+use mathlib.Core.Path.{_≡_, refl, sym, ap, subst, _∙_}
+use mathlib.Core.Bool.{Bool, true, false}
+use mathlib.Core.Logic.{⊎-elim}
+use mathlib.Core.List.{List, [], _∷_}
+use Prim.Native.Nat.{ℕ, _+_, _-_, _*_, _≤_, _<_}
+use native.Mathlib.Omega.{arith}
+use lib.Arith.{digits-lt}
+use lib.IntN.{ℤ}
+use lib.ListN.{length, getD, take}
+use lib.Seq.{getD-take}
+use types.Run.{OneOf}
+use denote.Enum.Declared.{tagOf}
+use Rattle.relation.specs.Sets.{member}
+use Rattle.grid.specs.Cells.{cell}
+use Rattle.theory.specs.Search.{Pair, Tried, emptied, closed, Found, placed, none, gaveUp, orNext, pastLast, searchFrom, pairsFrom}
+use Rattle.takes.specs.Steps.{ended}
+use Rattle.takes.specs.declared.End.{End}
+use Rattle.takes.specs.declared.End.the-variants.{Contradiction, Closed, Paused}
+use Rattle.takes.proofs.End.{the-type as end-type}
+use Rattle.placing.specs.Settling.{settles}
+use Rattle.search.specs.Rule.{thereAt, triedBy, tryAt, searchAt}
+use Rattle.search.specs.Answers.{saidBy, roomBy}
+use Rattle.search.specs.Steps.{saidWith, Shows, Settles, AtCell}
+use Rattle.search.specs.declared.Looked.{Looked}
+use Rattle.search.specs.declared.Outcome.{Outcome}
+use Rattle.search.specs.declared.Outcome.the-variants.{Placed, None, GaveUp}
+use Rattle.search.proofs.Outcome.{the-type as outcome-type}
+use Rattle.search.proofs.RuleLaws.{from, from-closed, from-emptied}
+
+-- ---- the cell that is read
+
+pub cell-take : (n : ℕ) (g : List ℕ) (i j : ℕ) → i < n → j < n → cell n (take (n * n) g) i j ≡ cell n g i j
+unfolding cell
+cell-take n g i j hi hj = getD-take (n * n) g (i * n + j) 0 (digits-lt hi hj)
+
+pub there-is : (n i j r set : ℕ) (g : List ℕ) (b x : Bool) → i < n → j < n → set ≡ cell n g i j → b ≡ member r set → b ≡ x → thereAt n (i, j) r (take (n * n) g) ≡ x
+unfolding thereAt
+there-is n i j r set g b x hi hj e f h = ap (member r) (cell-take n g i j hi hj ∙ sym e) ∙ sym f ∙ h
+
+-- ---- the first relation, and past the last cell
+
+pub look-start : (n a i j t : ℕ) (g : List ℕ) (ps : List Pair) → pairsFrom n i j ≡ (i, j) ∷ ps
+    → from (thereAt n) (tryAt n) a (searchAt n a ps) (i, j) g 0 t ≡ searchAt n a (pairsFrom n i j) g t
+unfolding searchAt searchFrom
+look-start n a i j t g ps e = rw e
+
+nil-of : (ps : List Pair) → length ps ≡ 0 → ps ≡ []
+nil-of [] e = refl
+nil-of (p ∷ ps) e = absurd (omega arith)
+
+pub look-end : (n a t : ℕ) (g : List ℕ) (ps : List Pair) (room room' : List ℤ) (l : Looked) → length ps ≡ 0 → t ≤ a → Settles n t g room l room'
+    → Shows n a (searchAt n a ps g t) room l room'
+unfolding searchAt searchFrom
+look-end n a t g ps room room' l e h s =
+    rw (nil-of ps e) (record { answer = s .answer; room-after = s .room-after; within = omega (arith, s .tries) })
+
+-- ---- a try
+
+-- every answer but Closed leaves a cell empty
+pub no-grid : (e : End) (g : List ℕ) → OneOf (0 ∷ 2 ∷ []) (tagOf end-type e) → triedBy (ended e g) ≡ emptied
+no-grid (Contradiction t) g h = refl
+no-grid (Closed t) g h = absurd (⊎-elim (λ e. omega arith) (λ e. omega arith) h)
+no-grid (Paused t) g h = refl
+
+pub a-grid : (e : End) (t : ℕ) (g : List ℕ) → e ≡ Closed t → triedBy (ended e g) ≡ closed g
+a-grid e t g q = ap (λ (x : End). triedBy (ended x g)) q
+
+-- ---- what the cells after this one came to
+
+none-shown : (o : Outcome) (t : ℕ) (e : Found) → o ≡ None → saidWith o t ≡ saidBy e → e ≡ none t
+none-shown o t e q s = go e (sym (ap (λ (x : Outcome). saidWith x t) q) ∙ s)
+  where
+    go : (e : Found) → saidWith None t ≡ saidBy e → e ≡ none t
+    go (placed u h) z = absurd (let y : _≡_ {A = ℕ} 0 1 = cc in omega arith)
+    go (none u) z = cc
+    go (gaveUp u) z = absurd (let y : _≡_ {A = ℕ} 0 1 = cc in omega arith)
+
+kept-shown : (o : Outcome) (t : ℕ) (e : Found) (next : ℕ → Found) → OneOf (0 ∷ 2 ∷ []) (tagOf outcome-type o) → saidWith o t ≡ saidBy e → orNext e next ≡ e
+kept-shown o t (placed u h) next x s = refl
+kept-shown o t (gaveUp u) next x s = refl
+kept-shown Placed t (none u) next x s = absurd (let y : _≡_ {A = ℕ} 0 1 = cc in omega arith)
+kept-shown None t (none u) next x s = absurd (⊎-elim (λ e. omega arith) (λ e. omega arith) x)
+kept-shown GaveUp t (none u) next x s = absurd (let y : _≡_ {A = ℕ} 0 1 = cc in omega arith)
+
+-- one relation's turn, of what the callees answered
+module _ (n a : ℕ) (ps : List Pair) (p : Pair) (g g' : List ℕ) (r t : ℕ) (e : End) (lt : r < 13) (there : thereAt n p r g ≡ true) (fresh : t ≡ a → ⊥)
+    (tried : triedBy (ended e g') ≡ tryAt n p r g) where
+  pub turn-emptied : OneOf (0 ∷ 2 ∷ []) (tagOf end-type e) → from (thereAt n) (tryAt n) a (searchAt n a ps) p g r t ≡ from (thereAt n) (tryAt n) a (searchAt n a ps) p g (r + 1) (t + 1)
+  turn-emptied x = from-emptied (thereAt n) (tryAt n) a (searchAt n a ps) p g r t lt there fresh (sym tried ∙ no-grid e g' x)
+
+  module _ (v : ℕ) (room room' : List ℤ) (l : Looked) (is : e ≡ Closed v) (below : Shows n a (searchAt n a ps g' (t + 1)) room l room') where
+    turned : from (thereAt n) (tryAt n) a (searchAt n a ps) p g r t
+        ≡ orNext (searchAt n a ps g' (t + 1)) (λ u. from (thereAt n) (tryAt n) a (searchAt n a ps) p g (r + 1) u)
+    turned = from-closed (thereAt n) (tryAt n) a (searchAt n a ps) p g r t g' lt there fresh (sym tried ∙ a-grid e v g' is)
+
+    pub turn-none : l .outcome ≡ None → (u : ℕ) → u ≡ l .tries
+        → (from (thereAt n) (tryAt n) a (searchAt n a ps) p g r t ≡ from (thereAt n) (tryAt n) a (searchAt n a ps) p g (r + 1) u) × (room' ≡ room)
+    turn-none q u w =
+        let z = none-shown (l .outcome) (l .tries) (searchAt n a ps g' (t + 1)) q (below .answer) in (
+          turned ∙ ap (λ (x : Found). orNext x (λ u. from (thereAt n) (tryAt n) a (searchAt n a ps) p g (r + 1) u)) z
+              ∙ ap (λ (x : ℕ). from (thereAt n) (tryAt n) a (searchAt n a ps) p g (r + 1) x) (sym w),
+          below .room-after ∙ ap (λ (x : Found). roomBy n x room) z,
+        )
+
+    pub turn-kept : OneOf (0 ∷ 2 ∷ []) (tagOf outcome-type (l .outcome)) → (whole : Found) (first : List ℤ)
+        → from (thereAt n) (tryAt n) a (searchAt n a ps) p g r t ≡ whole → room ≡ first → Shows n a whole first l room'
+    turn-kept x whole first w k =
+        let z = turned ∙ kept-shown (l .outcome) (l .tries) (searchAt n a ps g' (t + 1)) (λ u. from (thereAt n) (tryAt n) a (searchAt n a ps) p g (r + 1) u) x (below .answer) in
+        subst (λ (y : Found). Shows n a y first l room') (sym z ∙ w) (subst (λ (y : List ℤ). Shows n a (searchAt n a ps g' (t + 1)) y l room') k below)
+
+-- ---- the answers at one cell
+
+pub shows-gave-up : (n a t : ℕ) (e : Found) (room room' : List ℤ) → e ≡ gaveUp t → room' ≡ room → t ≤ a → Shows n a e room (record { outcome = GaveUp; tries = t }) room'
+shows-gave-up n a t e room room' q k h =
+    record { answer = sym (ap saidBy q); room-after = k ∙ sym (ap (λ (x : Found). roomBy n x room) q); within = h }
+
+pub shows-none : (n a t : ℕ) (e : Found) (room room' : List ℤ) → e ≡ none t → room' ≡ room → t ≤ a → Shows n a e room (record { outcome = None; tries = t }) room'
+shows-none n a t e room room' q k h =
+    record { answer = sym (ap saidBy q); room-after = k ∙ sym (ap (λ (x : Found). roomBy n x room) q); within = h }
+
+-- a cell that is left is one of the upper cells
+pub in-grid : (n i j left : ℕ) → AtCell n i j left → (left ≡ 0 → ⊥) → (i < n) × (j < n) × (i ≡ j → ⊥)
+in-grid n i j left a nz =
+    let m = a .more (omega arith) in
+    (omega (arith, a .upper), m, λ e. omega (arith, a .upper))

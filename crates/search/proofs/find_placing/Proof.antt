@@ -1,0 +1,42 @@
+-- A refusal comes first; an accepted grid is searched.
+use mathlib.Core.Path.{_≡_, sym, ap, _∙_}
+use Rattle.grid.specs.Accepted.{judgedNumber}
+use Rattle.search.proofs.FindLaws.{taken, refuses, looks}
+use borrow.Author.Needs.{needs}
+use Rattle.search.proofs.find_placing.Statement.{statement}
+use Rattle.search.proofs.find_placing.Tie as tie
+
+judge-requires : tie.Need-judge-requires
+judge-requires c κs = search needs
+
+enum-known-judged : tie.Need-enum-known-judged
+enum-known-judged c = search needs
+
+enum-told : tie.Need-enum-told
+enum-told c = search needs
+
+search-accepted-requires : tie.Need-search-accepted-requires
+search-accepted-requires c κs = let w = taken _ _ _ (sym (c .before .before .before .judge .ensures) ∙ ap judgedNumber (c .before .enum-told .given .1)) in (w .grid, w .room)
+
+returns : tie.Need-returns
+returns c = refuses _ _ _ _ _ (sym (ap judgedNumber (c .before .judged .given .1)) ∙ c .before .before .before .judge .ensures)
+
+same-length : tie.Need-same-length
+same-length c = search needs
+
+returns-2 : tie.Need-returns-2
+returns-2 c =
+    let z = sym (c .before .before .before .before .before .judge .ensures) ∙ ap judgedNumber (c .before .before .before .enum-told .given .1) in
+    looks _ _ _ _ _ _ z (taken _ _ _ z .grid) (c .before .search-accepted .ensures)
+
+pub find-placing-spec : {M : Type 1} → statement M
+find-placing-spec =
+    tie.close
+    (tie.spec
+    judge-requires
+    enum-known-judged
+    enum-told
+    search-accepted-requires
+    returns
+    same-length
+    returns-2)

@@ -1,0 +1,79 @@
+-- The grid is closed first, and the search goes on from there.
+use mathlib.Core.Path.{_≡_, refl, sym, ap, _∙_}
+use Prim.Native.Nat.{ℕ, _*_}
+use lib.ListN.{length, take}
+use Rattle.takes.specs.Steps.{ended}
+use Rattle.search.specs.Rule.{triedBy, fromClosed}
+use Rattle.search.proofs.RuleLaws.{square, at-first}
+use Rattle.search.proofs.LookLaws.{no-grid, a-grid}
+use Rattle.search.proofs.FindLaws.{search-empty, search-from, answers-none, answers-shown}
+use native.Mathlib.Omega.{arith}
+use borrow.Author.Needs.{needs}
+use Rattle.search.proofs.search_accepted.Statement.{statement}
+use Rattle.search.proofs.search_accepted.Tie as tie
+
+some-empty-requires : tie.Need-some-empty-requires
+some-empty-requires c κs = search needs
+
+returns : tie.Need-returns
+returns c = answers-none _ _ _ (search-empty _ _ _ (sym (c .before .some-empty .ensures) ∙ c .if1 .taken))
+
+half-rows-requires : tie.Need-half-rows-requires
+half-rows-requires c κs = search needs
+
+slice-aggregate-close-copy : tie.Need-slice-aggregate-close-copy
+slice-aggregate-close-copy c = search needs
+
+close-copy-requires : tie.Need-close-copy-requires
+close-copy-requires c κs = let s = c .before .before .before .before .before .before .pre in (search needs, s .0, record { few = s .0 .few; fits = square _ (s .0 .few) .1 })
+
+enum-known-first : tie.Need-enum-known-first
+enum-known-first c = search needs
+
+returns-2 : tie.Need-returns-2
+returns-2 c =
+    let s = c .before .before .before .before .before .before .before .before .before .args in
+    answers-none _ _ _
+    (search-from _ _ _ (sym (c .before .before .before .before .before .before .before .some-empty .ensures) ∙ c .before .before .before .before .before .before .if1 .left) _ (c .before .before .close-copy .ensures)
+    ∙ ap (fromClosed _ _) (no-grid (c .before .before .close-copy .result) (take (s .n * s .n) (c .before .before .close-copy .last .1 .1 .0)) (c .match .keys2)))
+
+mul-left : tie.Need-mul-left
+mul-left c = omega (arith, square _ (c .before .before .before .before .before .before .before .before .before .before .before .pre .0 .few) .1)
+
+sub-left : tie.Need-sub-left
+sub-left c = square _ (c .before .before .before .before .before .before .before .before .before .before .before .pre .0 .few) .0
+
+look-requires : tie.Need-look-requires
+look-requires c κs = let s = c .before .before .before .before .before .before .before .before .before .before .before .before .before .pre in (search needs, at-first _ (s .0 .few), search needs, s .1)
+
+answer-of-requires : tie.Need-answer-of-requires
+answer-of-requires c κs = search needs
+
+same-length : tie.Need-same-length
+same-length c = search needs
+
+returns-3 : tie.Need-returns-3
+returns-3 c =
+    let s = c .before .before .before .before .before .before .before .before .before .before .before .before .before .before .before .before .args in
+    answers-shown _ _ _ _ _ _ _ _
+    (search-from _ _ _ (sym (c .before .before .before .before .before .before .before .before .before .before .before .before .before .before .some-empty .ensures) ∙ c .before .before .before .before .before .before .before .before .before .before .before .before .before .if1 .left) _ (c .before .before .before .before .before .before .before .before .before .close-copy .ensures)
+    ∙ ap (fromClosed _ _) (a-grid (c .before .before .before .before .before .before .before .before .before .close-copy .result) _ (take (s .n * s .n) (c .before .before .before .before .before .before .before .before .before .close-copy .last .1 .1 .0)) (c .before .before .before .before .before .before .first .given .1)))
+    (c .before .before .look .ensures) (c .answer-of .ensures)
+
+pub search-accepted-spec : {M : Type 1} → statement M
+search-accepted-spec =
+    tie.close
+    (tie.spec
+    some-empty-requires
+    returns
+    half-rows-requires
+    slice-aggregate-close-copy
+    close-copy-requires
+    enum-known-first
+    returns-2
+    mul-left
+    sub-left
+    look-requires
+    answer-of-requires
+    same-length
+    returns-3)

@@ -1,0 +1,83 @@
+-- Document 01, "Looking for a placing" and "What comes back": the answer and the room afterwards, for every input. Assumes nothing.
+use mathlib.Core.Path.{_≡_}
+use mathlib.Core.Bool.{Bool, true, false}
+use mathlib.Core.Logic.{_⊎_}
+use mathlib.Core.List.{List, [], _∷_}
+use Prim.Native.Nat.{ℕ, _<_}
+use lib.Dec.{eqb}
+use lib.IntN.{ℤ}
+use lib.ListN.{length}
+use Rattle.refusal.specs.Numbers.{numberOf}
+use Rattle.relation.specs.Meaning.{Event, holds}
+use Rattle.grid.specs.Accepted.{cellRefusal, firstOf}
+use Rattle.theory.specs.Search.{Pair, Found, placed, none, gaveUp, pairsFrom}
+use Rattle.placing.specs.Placing.{Meets, Places, MeetsAt, NoGaps}
+use Rattle.placing.specs.Checking.{lengthRefusal}
+use Rattle.placing.specs.Settling.{placingOf}
+use Rattle.search.specs.Rule.{searchOf}
+use Rattle.search.specs.declared.PlaceAnswer.{PlaceAnswer}
+use Rattle.search.specs.declared.PlaceAnswer.the-variants.{Placed, None, GaveUp, Refused}
+
+-- document 01's four answers: with its tries, or the number of a refusal
+pub data Said : Type 0 where
+  saidPlaced : ℕ → Said
+  saidNone : ℕ → Said
+  saidGaveUp : ℕ → Said
+  saidRefused : ℕ → Said
+
+abbrev pub saidOf : PlaceAnswer → Said
+saidOf (Placed t) = saidPlaced t
+saidOf (None t) = saidNone t
+saidOf (GaveUp t) = saidGaveUp t
+saidOf (Refused r) = saidRefused (numberOf r)
+
+-- 1, 2, 6, then 3, 4, 5; 0 is none
+unfoldable pub searchRefusal : ℕ → List ℕ → ℕ → ℕ
+searchRefusal n g m = firstOf (lengthRefusal n g m) (cellRefusal n g)
+
+-- what is said of a search's end, and the room that it leaves: the one placing without gaps, or as found
+abbrev pub saidBy : Found → Said
+saidBy (placed t h) = saidPlaced t
+saidBy (none t) = saidNone t
+saidBy (gaveUp t) = saidGaveUp t
+
+abbrev pub roomBy : ℕ → Found → List ℤ → List ℤ
+roomBy n (placed t h) room = placingOf n h
+roomBy n (none t) room = room
+roomBy n (gaveUp t) room = room
+
+-- where no refusal is due (0), and otherwise
+abbrev pub orRefused : Bool → Said → ℕ → Said
+orRefused true s k = s
+orRefused false s k = saidRefused k
+
+abbrev pub orKept : Bool → List ℤ → List ℤ → List ℤ
+orKept true new old = new
+orKept false new old = old
+
+-- ---- the meaning
+
+-- the relations of the placing P to the pairs come no later than those of Q, in rising number
+abbrev pub NoLater : List Pair → (ℕ → Event) → (ℕ → Event) → Type 0
+NoLater [] P Q = Unit {0}
+NoLater (p ∷ ps) P Q =
+    (r : ℕ) × (s : ℕ) × holds r (P (p .0)) (P (p .1)) × holds s (Q (p .0)) (Q (p .1)) × ((r < s) ⊎ ((r ≡ s) × NoLater ps P Q))
+
+-- the numbers are a placing without gaps that meets every cell of the given grid, and its scenario is the first that any placing meets
+pub record FirstPlacing (n : ℕ) (g : List ℕ) (xs : List ℤ) : Type 0 where
+  pub meets : MeetsAt n g xs
+  pub no-gaps : NoGaps xs
+  pub first : (P Q : ℕ → Event) → Places n xs P → Meets n g Q → NoLater (pairsFrom n 0 1) P Q
+
+-- what an answer means for the given grid, with the room afterwards
+abbrev pub Meant : ℕ → ℕ → List ℕ → List ℤ → PlaceAnswer → Type 0
+Meant n allowance g xs (Placed t) = FirstPlacing n g xs
+Meant n allowance g xs (None t) = (P : ℕ → Event) → Meets n g P → ⊥
+Meant n allowance g xs (GaveUp t) = t ≡ allowance
+Meant n allowance g xs (Refused r) = Unit {0}
+
+-- looking for a placing of the grid g with the lent room answers a and leaves the room room'
+pub record Looks (n allowance : ℕ) (g : List ℕ) (room : List ℤ) (a : PlaceAnswer) (room' : List ℤ) : Type 0 where
+  pub answer : saidOf a ≡ orRefused (eqb (searchRefusal n g (length room)) 0) (saidBy (searchOf n allowance g)) (searchRefusal n g (length room))
+  pub room-after : room' ≡ orKept (eqb (searchRefusal n g (length room)) 0) (roomBy n (searchOf n allowance g) room) room
+  pub means : Meant n allowance g room' a

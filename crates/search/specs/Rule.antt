@@ -1,0 +1,42 @@
+-- Document 01, "Looking for a placing": the search of an accepted grid. proofs/SearchRight.antt shows what its answers mean. Assumes nothing.
+use mathlib.Core.Bool.{Bool}
+use mathlib.Core.List.{List, [], _∷_}
+use Prim.Native.Nat.{ℕ, _^_}
+use Rattle.relation.specs.Sets.{member}
+use Rattle.relation.specs.Composition.{converse}
+use Rattle.grid.specs.Cells.{cell, putBoth}
+use Rattle.theory.specs.Allen.{allen}
+use Rattle.theory.specs.Line.{pairOf}
+use Rattle.theory.specs.Quick as quick
+use Rattle.theory.specs.Search.{Pair, Tried, emptied, closed, Found, none, searchFrom, pairsFrom}
+use Rattle.quick.specs.Answers.{quickRule}
+use Rattle.placing.specs.Settling.{settles}
+
+-- so many takes always suffice
+abbrev pub enough : ℕ
+enough = 6448
+
+-- relation r is still there in the cell of the pair
+unfoldable pub thereAt : ℕ → Pair → ℕ → List ℕ → Bool
+thereAt n p r g = member r (cell n g (p .0) (p .1))
+
+abbrev pub triedBy : quick.Ended → Tried
+triedBy (quick.contradiction t) = emptied
+triedBy (quick.closed t g) = closed g
+triedBy (quick.paused t g) = emptied
+
+-- one try: the cell and its mirror are cut to relation r, and the grid is closed. It was closed before, so it is closed from the one pair that was cut.
+unfoldable pub tryAt : ℕ → Pair → ℕ → List ℕ → Tried
+tryAt n p r g = triedBy (quick.run allen n enough 0 (putBoth converse n g (p .0) (p .1) (2 ^ r)) (pairOf (p .0) (p .1) ∷ []))
+
+-- the cells from a list on
+unfoldable pub searchAt : ℕ → ℕ → List Pair → List ℕ → ℕ → Found
+searchAt n allowance ps g t = searchFrom (thereAt n) (tryAt n) (settles n) allowance ps g t
+
+-- from the closed grid; the first closing is no try
+abbrev pub fromClosed : ℕ → ℕ → Tried → Found
+fromClosed n allowance emptied = none 0
+fromClosed n allowance (closed h) = searchAt n allowance (pairsFrom n 0 1) h 0
+
+unfoldable pub searchOf : ℕ → ℕ → List ℕ → Found
+searchOf n allowance g = fromClosed n allowance (triedBy (quickRule n enough g))

@@ -1,0 +1,49 @@
+-- The search from one cell on, and where the code stands. Inner functions cite this; the public statement does not. Assumes nothing.
+use mathlib.Core.Path.{_≡_}
+use mathlib.Core.List.{List, [], _∷_}
+use Prim.Native.Nat.{ℕ, _≤_, _<_}
+use lib.IntN.{ℤ}
+use lib.ListN.{length}
+use Rattle.theory.specs.Search.{Pair, Found, placed, none, gaveUp, pastLast, pairsFrom}
+use Rattle.placing.specs.Settling.{settles, placingOf}
+use Rattle.search.specs.Rule.{searchAt}
+use Rattle.search.specs.Answers.{Said, saidPlaced, saidNone, saidGaveUp, saidOf, saidBy, roomBy}
+use Rattle.search.specs.declared.Outcome.{Outcome}
+use Rattle.search.specs.declared.Outcome.the-variants.{Placed, None, GaveUp}
+use Rattle.search.specs.declared.Looked.{Looked}
+use Rattle.search.specs.declared.PlaceAnswer.{PlaceAnswer}
+
+abbrev pub saidWith : Outcome → ℕ → Said
+saidWith Placed t = saidPlaced t
+saidWith None t = saidNone t
+saidWith GaveUp t = saidGaveUp t
+
+-- the answer and the room are those of a search's end
+pub record Shows (n allowance : ℕ) (e : Found) (room : List ℤ) (l : Looked) (room' : List ℤ) : Type 0 where
+  pub answer : saidWith (l .outcome) (l .tries) ≡ saidBy e
+  pub room-after : room' ≡ roomBy n e room
+  pub within : l .tries ≤ allowance
+
+-- the same, as an answer
+pub record Answers (n : ℕ) (e : Found) (room : List ℤ) (a : PlaceAnswer) (room' : List ℤ) : Type 0 where
+  pub answer : saidOf a ≡ saidBy e
+  pub room-after : room' ≡ roomBy n e room
+
+-- past the last cell
+pub record Settles (n t : ℕ) (g : List ℕ) (room : List ℤ) (l : Looked) (room' : List ℤ) : Type 0 where
+  pub answer : saidWith (l .outcome) (l .tries) ≡ saidBy (pastLast (settles n g) t g)
+  pub room-after : room' ≡ roomBy n (pastLast (settles n g) t g) room
+  pub tries : l .tries ≡ t
+
+-- the code stands at cell (i, j), or past the last, with so many cells left
+pub record AtCell (n i j left : ℕ) : Type 0 where
+  pub few : n ≤ 32
+  pub upper : i < j
+  pub count : length (pairsFrom n i j) ≡ left
+  pub more : 0 < left → j < n
+
+-- the cell after (i, j)
+pub record Next (n i j i' j' : ℕ) : Type 0 where
+  pub upper : i' < j'
+  pub pairs : pairsFrom n i j ≡ (i, j) ∷ pairsFrom n i' j'
+  pub more : 0 < length (pairsFrom n i' j') → j' < n

@@ -1,0 +1,191 @@
+-- The grid of a sheet's statements is accepted by every function on grids; it stands in the front of a longer room. Assumes nothing.
+use mathlib.Core.Path.{_≡_, refl, sym, _∙_, ap}
+use mathlib.Core.Bool.{cond}
+use mathlib.Core.List.{List, [], _∷_, _++_}
+use Prim.Native.Nat.{ℕ, zero, suc, _+_, _*_, _≤_, _<_}
+use native.Mathlib.Omega.{arith}
+use native.Mathlib.Decide.{decLt, ℕ-discrete}
+use lib.Arith.{digits-lt, digits-div, digits-mod}
+use lib.Bits.{bitAnd, and-le-l}
+use lib.Dec.{eqb}
+use lib.ListN.{length, take, getD, set, length-append, List·getD-append}
+use lib.Seq.{getD-at, getD-take, take-set-lt}
+use borrow.Author.Tests.{eq-eqb, ne-eqb}
+use Rattle.relation.specs.Meaning.{exchanged}
+use Rattle.relation.specs.Sets.{member, setBelow, setOf, some, unionOver}
+use Rattle.relation.specs.Composition.{converse}
+use Rattle.relation.proofs.ExchangeLaws.{converse-lt, converse-twice}
+use Rattle.grid.specs.Cells.{cell, put, putBoth}
+use Rattle.grid.specs.Accepted.{Accepted}
+use Rattle.grid.proofs.CellLaws.{putBoth-length, cell-both-here, cell-both-mirror, cell-both-other}
+use Rattle.sheet.specs.Sheet.{Statement, mostEvents}
+use Rattle.sheet.specs.Grid.{upTo, startCell, startGrid, cutBy, cutAll, gridOf}
+use Rattle.sheet.proofs.FitLaws.{Fits, AllFit}
+
+-- ---- the start
+
+upTo-length : (k : ℕ) (f : ℕ → ℕ) → length (upTo k f) ≡ k
+unfolding upTo
+upTo-length zero f = refl
+upTo-length (suc k) f = omega (arith, length-append (upTo k f) (f k ∷ []), upTo-length k f)
+
+upTo-at : (k : ℕ) (f : ℕ → ℕ) (p : ℕ) → p < k → getD (upTo k f) p 0 ≡ f p
+unfolding upTo
+upTo-at zero f p h = absurd (omega arith)
+upTo-at (suc k) f p h = by (upTo-length k f) (upTo-at k f p) (decLt p k)
+  where
+    by : length (upTo k f) ≡ k → (p < k → getD (upTo k f) p 0 ≡ f p) → Dec (p < k) → getD (upTo k f ++ f k ∷ []) p 0 ≡ f p
+    by n r (yes g) = List·getD-append (upTo k f) (f k ∷ []) 0 p (omega arith) ∙ r g
+    by n r (no g) =
+        let e : p ≡ k = omega arith in
+        rw e (getD-at (upTo k f) (f k) [] 0 k n)
+
+start-length : (n : ℕ) → length (startGrid n) ≡ n * n
+unfolding startGrid
+start-length n = upTo-length (n * n) (startCell n)
+
+module _ (n i j : ℕ) (hi : i < n) (hj : j < n) where
+  start-at : cell n (startGrid n) i j ≡ cond (eqb i j) 4096 8191
+  unfolding startGrid cell
+  start-at = upTo-at (n * n) (startCell n) (i * n + j) (digits-lt hi hj) ∙ rw (digits-div i hj, digits-mod i hj)
+
+  pub start-same : i ≡ j → cell n (startGrid n) i j ≡ 4096
+  start-same e = start-at ∙ rw (eq-eqb i j e)
+
+  pub start-other : (i ≡ j → ⊥) → cell n (startGrid n) i j ≡ 8191
+  start-other e = start-at ∙ rw (ne-eqb i j e)
+
+converse-eq : converse 4096 ≡ 4096
+unfolding converse unionOver setOf setBelow some member exchanged
+converse-eq = refl
+
+converse-any : converse 8191 ≡ 8191
+unfolding converse unionOver setOf setBelow some member exchanged
+converse-any = refl
+
+start-accepted : (n : ℕ) → n ≤ mostEvents → Accepted n (startGrid n)
+start-accepted n h =
+    record {
+      few = h;
+      long = start-length n;
+      small = λ i j hi hj. elim (ℕ-discrete i j) [
+        | yes e ↦ omega (arith, start-same n i j hi hj e)
+        | no e ↦ omega (arith, start-other n i j hi hj e)
+      ];
+      diagonal = λ i hi. start-same n i i hi hi refl;
+      mirrored = λ i j hi hj. elim (ℕ-discrete i j) [
+        | yes e ↦ start-same n j i hj hi (sym e) ∙ sym (ap converse (start-same n i j hi hj e) ∙ converse-eq)
+        | no e ↦ start-other n j i hj hi (λ d. e (sym d)) ∙ sym (ap converse (start-other n i j hi hj e) ∙ converse-any)
+      ];
+    }
+
+-- ---- a cut
+
+-- a cell is the one that a statement names, its mirror, or another
+data Side (i j x y : ℕ) : Type 0 where
+  here : x ≡ i → y ≡ j → Side i j x y
+  mirror : x ≡ j → y ≡ i → Side i j x y
+  other : ((x ≡ i) × (y ≡ j) → ⊥) → ((x ≡ j) × (y ≡ i) → ⊥) → Side i j x y
+
+side : (i j x y : ℕ) → Side i j x y
+side i j x y = at (ℕ-discrete x i) (ℕ-discrete y j) (ℕ-discrete x j) (ℕ-discrete y i)
+  where
+    at : Dec (x ≡ i) → Dec (y ≡ j) → Dec (x ≡ j) → Dec (y ≡ i) → Side i j x y
+    at (yes a) (yes b) c d = here a b
+    at (yes a) (no b) (yes c) (yes d) = mirror c d
+    at (yes a) (no b) (yes c) (no d) = other (λ w. b (w .1)) (λ w. d (w .1))
+    at (yes a) (no b) (no c) d = other (λ w. b (w .1)) (λ w. c (w .0))
+    at (no a) b (yes c) (yes d) = mirror c d
+    at (no a) b (yes c) (no d) = other (λ w. a (w .0)) (λ w. d (w .1))
+    at (no a) b (no c) d = other (λ w. a (w .0)) (λ w. c (w .0))
+
+module _ (n : ℕ) (g : List ℕ) (a : Accepted n g) (t : Statement) (f : Fits n t) where
+  -- the new set, and that the grid has the place
+  abbrev left : ℕ
+  left = bitAnd (cell n g (t .one) (t .two)) (t .set)
+
+  left-small : left ≤ 8191
+  left-small = omega (arith, and-le-l (cell n g (t .one) (t .two)) (t .set), a .small (t .one) (t .two) (f .one-in) (f .two-in))
+
+  has : n * n ≤ length g
+  has = omega (arith, a .long)
+
+  cut-here : cell n (cutBy n g t) (t .one) (t .two) ≡ left
+  unfolding cutBy
+  cut-here = cell-both-here converse n g has (t .one) (t .two) left (f .one-in) (f .two-in) (f .apart)
+
+  cut-mirror : cell n (cutBy n g t) (t .two) (t .one) ≡ converse left
+  unfolding cutBy
+  cut-mirror = cell-both-mirror converse n g has (t .one) (t .two) left (f .one-in) (f .two-in)
+
+  module _ (x y : ℕ) (hy : y < n) (p : (x ≡ t .one) × (y ≡ t .two) → ⊥) (q : (x ≡ t .two) × (y ≡ t .one) → ⊥) where
+    cut-other : cell n (cutBy n g t) x y ≡ cell n g x y
+    unfolding cutBy
+    cut-other = cell-both-other converse n g has (t .one) (t .two) left (f .one-in) (f .two-in) x y hy p q
+
+  cut-small : (x y : ℕ) → x < n → y < n → cell n (cutBy n g t) x y ≤ 8191
+  cut-small x y hx hy = by (side (t .one) (t .two) x y)
+    where
+      by : Side (t .one) (t .two) x y → cell n (cutBy n g t) x y ≤ 8191
+      by (here p q) = rw (p, q, cut-here) left-small
+      by (mirror p q) = rw (p, q, cut-mirror) (omega (arith, converse-lt left))
+      by (other p q) = rw (cut-other x y hy p q) (a .small x y hx hy)
+
+  cut-mirrored : (x y : ℕ) → x < n → y < n → cell n (cutBy n g t) y x ≡ converse (cell n (cutBy n g t) x y)
+  cut-mirrored x y hx hy = by (side (t .one) (t .two) x y)
+    where
+      by : Side (t .one) (t .two) x y → cell n (cutBy n g t) y x ≡ converse (cell n (cutBy n g t) x y)
+      by (here p q) = rw (p, q, cut-here, cut-mirror)
+      by (mirror p q) = rw (p, q, cut-here, cut-mirror) (sym (converse-twice left (omega (arith, left-small))))
+      by (other p q) =
+          cut-other y x hx (λ w. q (w .1, w .0)) (λ w. p (w .1, w .0)) ∙ a .mirrored x y hx hy ∙ ap converse (sym (cut-other x y hy p q))
+
+  cut-accepted : Accepted n (cutBy n g t)
+  unfolding cutBy
+  cut-accepted =
+      record {
+        few = a .few;
+        long = putBoth-length converse n g (t .one) (t .two) left ∙ a .long;
+        small = cut-small;
+        diagonal = λ x hx.
+            cut-other x x hx (λ w. f .apart (sym (w .0) ∙ w .1)) (λ w. f .apart (sym (w .1) ∙ w .0)) ∙ a .diagonal x hx;
+        mirrored = cut-mirrored;
+      }
+
+cuts-accepted : (n : ℕ) (g : List ℕ) (sts : List Statement) → Accepted n g → AllFit n sts → Accepted n (cutAll n g sts)
+unfolding cutAll
+cuts-accepted n g [] a f = a
+cuts-accepted n g (t ∷ sts) a f = cuts-accepted n (cutBy n g t) sts (cut-accepted n g a t (f .0)) (f .1)
+
+pub grid-accepted : (n : ℕ) (sts : List Statement) → n ≤ mostEvents → AllFit n sts → Accepted n (gridOf n sts)
+unfolding gridOf
+grid-accepted n sts h f = cuts-accepted n (startGrid n) sts (start-accepted n h) f
+
+-- ---- the grid in the front of a room
+
+module _ (n : ℕ) (g : List ℕ) (i j : ℕ) (hi : i < n) (hj : j < n) where
+  take-put : (a : ℕ) → take (n * n) (put n g i j a) ≡ put n (take (n * n) g) i j a
+  unfolding put
+  take-put a = take-set-lt (n * n) g (i * n + j) a (digits-lt hi hj)
+
+  take-cell : cell n (take (n * n) g) i j ≡ cell n g i j
+  unfolding cell
+  take-cell = getD-take (n * n) g (i * n + j) 0 (digits-lt hi hj)
+
+take-cut : (n : ℕ) (g : List ℕ) (t : Statement) → Fits n t → take (n * n) (cutBy n g t) ≡ cutBy n (take (n * n) g) t
+unfolding cutBy putBoth
+take-cut n g t f =
+    rw (take-put n _ (t .two) (t .one) (f .two-in) (f .one-in), take-put n g (t .one) (t .two) (f .one-in) (f .two-in), take-cell n g (t .one) (t .two) (f .one-in) (f .two-in))
+
+take-cuts : (n : ℕ) (g : List ℕ) (sts : List Statement) → AllFit n sts → take (n * n) (cutAll n g sts) ≡ cutAll n (take (n * n) g) sts
+unfolding cutAll
+take-cuts n g [] f = refl
+take-cuts n g (t ∷ sts) f = take-cuts n (cutBy n g t) sts (f .1) ∙ ap (λ (x : List ℕ). cutAll n x sts) (take-cut n g t (f .0))
+
+pub grid-front : (n : ℕ) (g g′ : List ℕ) (sts : List Statement) → AllFit n sts → take (n * n) g ≡ startGrid n → g′ ≡ cutAll n g sts
+    → take (n * n) g′ ≡ gridOf n sts
+unfolding gridOf
+grid-front n g g′ sts f p q = ap (take (n * n)) q ∙ take-cuts n g sts f ∙ ap (λ (x : List ℕ). cutAll n x sts) p
+
+pub grid-length : (n : ℕ) (sts : List Statement) → n ≤ mostEvents → AllFit n sts → length (gridOf n sts) ≡ n * n
+grid-length n sts h f = grid-accepted n sts h f .long

@@ -1,0 +1,32 @@
+-- Document 01, "Sheets": the grid of a list of statements. Assumes nothing.
+use mathlib.Core.Bool.{cond}
+use mathlib.Core.List.{List, [], _∷_, _++_}
+use Prim.Native.Nat.{ℕ, zero, suc, _*_, _/_, _%_}
+use lib.Bits.{bitAnd}
+use lib.Dec.{eqb}
+use Rattle.relation.specs.Composition.{converse}
+use Rattle.grid.specs.Cells.{cell, putBoth}
+use Rattle.sheet.specs.Sheet.{Statement}
+
+-- f 0, f 1, .. up to f (k - 1)
+unfoldable pub upTo : ℕ → (ℕ → ℕ) → List ℕ
+upTo zero f = []
+upTo (suc k) f = upTo k f ++ f k ∷ []
+
+-- a pair starts as any, and an event to itself as {eq}: place p is that of cell (p / n, p % n)
+abbrev pub startCell : ℕ → ℕ → ℕ
+startCell n p = cond (eqb (p / n) (p % n)) 4096 8191
+
+unfoldable pub startGrid : ℕ → List ℕ
+startGrid n = upTo (n * n) (startCell n)
+
+-- a statement cuts its cell, and the mirror is turned round
+unfoldable pub cutBy : ℕ → List ℕ → Statement → List ℕ
+cutBy n g t = putBoth converse n g (t .one) (t .two) (bitAnd (cell n g (t .one) (t .two)) (t .set))
+
+unfoldable pub cutAll : ℕ → List ℕ → List Statement → List ℕ
+cutAll n g [] = g
+cutAll n g (t ∷ ts) = cutAll n (cutBy n g t) ts
+
+unfoldable pub gridOf : ℕ → List Statement → List ℕ
+gridOf n sts = cutAll n (startGrid n) sts

@@ -1,0 +1,64 @@
+-- The sum stays below the prime.
+use Prim.Native.Nat.{_-_, _≤_, _<_}
+use lib.ListN.{length}
+use borrow.Author.Needs.{needs}
+use native.Mathlib.Omega.{arith}
+use Rattle.sheet_run.proofs.checksum.Statement.{statement}
+use Rattle.sheet_run.proofs.checksum.Tie as tie
+
+abbrev Inv-loop : tie.InvT-loop
+Inv-loop cells sum₀ p₀ sum p = (p ≤ length cells) × (sum < 4294967291)
+
+abbrev μ-loop : tie.MeasureT-loop
+μ-loop cells sum₀ p₀ sum p = length cells - p
+
+loop-holds : tie.Need-loop-holds Inv-loop μ-loop
+loop-holds c = search needs
+
+mul-sum : tie.Need-mul-sum Inv-loop μ-loop
+mul-sum c = search needs
+
+mul-sum-2 : tie.Need-mul-sum-2 Inv-loop μ-loop
+mul-sum-2 c = search needs
+
+shared-slice-read-sum : tie.Need-shared-slice-read-sum Inv-loop μ-loop
+shared-slice-read-sum c = search needs
+
+cast-sum : tie.Need-cast-sum Inv-loop μ-loop
+cast-sum c = omega (arith, c .shared-slice-known .given (c .before .before .loop .p))
+
+add-sum : tie.Need-add-sum Inv-loop μ-loop
+add-sum c = omega (arith, c .shared-slice-known .given (c .before .before .loop .p))
+
+add-p : tie.Need-add-p Inv-loop μ-loop
+add-p c = search needs
+
+loop-less : tie.Need-loop-less Inv-loop μ-loop
+loop-less c = search needs
+
+loop-again : tie.Need-loop-again Inv-loop μ-loop
+loop-again c = search needs
+
+cast-result : tie.Need-cast-result Inv-loop μ-loop
+cast-result c = search needs
+
+returns : tie.Need-returns Inv-loop μ-loop
+returns c = search needs
+
+pub checksum-spec : {M : Type 1} → statement M
+checksum-spec =
+    tie.close
+    (tie.spec
+    Inv-loop
+    μ-loop
+    loop-holds
+    mul-sum
+    mul-sum-2
+    shared-slice-read-sum
+    cast-sum
+    add-sum
+    add-p
+    loop-less
+    loop-again
+    cast-result
+    returns)

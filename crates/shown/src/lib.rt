@@ -1,0 +1,1 @@
+// What is shown of several rooms together. It holds no code.

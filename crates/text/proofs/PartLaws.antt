@@ -1,0 +1,136 @@
+-- Laws of the parts of a text. Assumes nothing.
+use Prim.Native.Nat.{ℕ, zero, suc, _+_, _-_, _≤_, _<_}
+use mathlib.Core.Path.{_≡_, refl, sym, _∙_, ap}
+use mathlib.Core.Bool.{Bool, true, false, cond}
+use mathlib.Core.List.{List, [], _∷_}
+use native.Mathlib.Omega.{arith}
+use native.Mathlib.Decide.{decLt}
+use native.Mathlib.Numerals.{add-one}
+use native.Mathlib.Nat.{sub-zero}
+use lib.Dec.{eqb}
+use lib.ListN.{length, take, drop, getD, drop-of-length-le, length-drop}
+use lib.Seq.{drop-cons, drop-drop, drop-nil, take-all, take-nil, length-take-le}
+use borrow.Author.Tests.{lt-ltb, le-ltb, eq-eqb, ne-eqb}
+use Rattle.text.specs.Text.{split, onto}
+use Rattle.text.specs.Steps.{until, after, PartEnd}
+
+-- ---- counting up to the byte c
+
+module _ (c : ℕ) (s : List ℕ) (i : ℕ) where
+  pub until-stop : i < length s → getD s i 0 ≡ c → until c (drop i s) ≡ 0
+  until-stop h e = rw (drop-cons s i 0, eq-eqb _ _ e)
+
+  pub until-more : i < length s → (getD s i 0 ≡ c → ⊥) → until c (drop i s) ≡ 1 + until c (drop (i + 1) s)
+  until-more h e = rw (drop-cons s i 0, ne-eqb _ _ e, add-one) (omega arith)
+
+  pub until-end : length s ≤ i → until c (drop i s) ≡ 0
+  until-end h = rw drop-of-length-le
+
+until-le : (c : ℕ) (xs : List ℕ) → until c xs ≤ length xs
+until-le c [] = omega arith
+until-le c (x ∷ xs) = by (eqb x c) (until-le c xs)
+  where
+    by : (t : Bool) → until c xs ≤ length xs → cond t zero (suc (until c xs)) ≤ suc (length xs)
+    by true i = omega arith
+    by false i = omega arith
+
+-- ---- the first part, and the others
+
+-- the first part is what stands before the first c, and the others are those of what stands after it
+split-next : (c : ℕ) (xs : List ℕ) → until c xs < length xs → split c xs ≡ take (until c xs) xs ∷ split c (drop (until c xs + 1) xs)
+split-next c [] h = absurd (omega arith)
+split-next c (x ∷ xs) h = rw add-one (by (eqb x c) (split-next c xs) h)
+  where
+    by : (t : Bool) → (until c xs < length xs → split c xs ≡ take (until c xs) xs ∷ split c (drop (until c xs + 1) xs))
+        → cond t zero (suc (until c xs)) < suc (length xs)
+        → cond t ([] ∷ split c xs) (onto x (split c xs)) ≡ take (cond t zero (suc (until c xs))) (x ∷ xs) ∷ split c (drop (suc (cond t zero (suc (until c xs)))) (x ∷ xs))
+    by true i h = refl
+    by false i h = rw (i (omega arith), add-one)
+
+split-last : (c : ℕ) (xs : List ℕ) → length xs ≤ until c xs → split c xs ≡ take (until c xs) xs ∷ []
+split-last c [] h = refl
+split-last c (x ∷ xs) h = by (eqb x c) (split-last c xs) h
+  where
+    by : (t : Bool) → (length xs ≤ until c xs → split c xs ≡ take (until c xs) xs ∷ [])
+        → suc (length xs) ≤ cond t zero (suc (until c xs)) → cond t ([] ∷ split c xs) (onto x (split c xs)) ≡ take (cond t zero (suc (until c xs))) (x ∷ xs) ∷ []
+    by true i h = absurd (omega arith)
+    by false i h = rw (i (omega arith))
+
+pub after-next : (c : ℕ) (s : List ℕ) (e : ℕ) → e < length s → after c s e ≡ split c (drop (e + 1) s)
+unfolding after
+after-next c s e h = rw (lt-ltb _ _ h)
+
+pub after-last : (c : ℕ) (s : List ℕ) (e : ℕ) → length s ≤ e → after c s e ≡ []
+unfolding after
+after-last c s e h = rw (le-ltb _ _ h)
+
+pub part-end : (c : ℕ) (s : List ℕ) (a e : ℕ) → a ≤ length s → e ≡ a + until c (drop a s) → PartEnd c s a e
+part-end c s a e h q =
+    let l = until-le c (drop a s) in
+    let n = length-drop a s in
+    let k : e - a ≡ until c (drop a s) = omega arith in
+    let j : e + 1 ≡ a + (until c (drop a s) + 1) = omega arith in
+    record {
+      low = omega arith;
+      high = omega arith;
+      parts = elim (decLt e (length s)) [
+        | yes b ↦ rw (after-next c s e b, k, j, split-next c (drop a s) (omega arith), drop-drop)
+        | no b ↦ let g : length s ≤ e = omega arith in rw (after-last c s e g, k, split-last c (drop a s) (omega arith))
+      ];
+    }
+
+-- the part has the bytes from a up to e
+pub part-length : (c : ℕ) (s : List ℕ) (a e : ℕ) → PartEnd c s a e → length (take (e - a) (drop a s)) ≡ e - a
+part-length c s a e p = length-take-le (e - a) (drop a s) (omega (arith, length-drop a s, p .low, p .high))
+
+-- there is always a part
+pub split-some : (c : ℕ) (xs : List ℕ) → 1 ≤ length (split c xs)
+split-some c xs = elim (decLt (until c xs) (length xs)) [
+  | yes h ↦ rw (split-next c xs h) (omega arith)
+  | no h ↦ let g : length xs ≤ until c xs = omega arith in rw (split-last c xs g) (omega arith)
+]
+
+-- ---- a part of a part
+
+pub drop-take : (m n : ℕ) (l : List ℕ) → drop m (take n l) ≡ take (n - m) (drop m l)
+drop-take zero n l = rw sub-zero
+drop-take (suc m) zero l = let z : zero - suc m ≡ 0 = omega arith in rw (z, drop-nil)
+drop-take (suc m) (suc n) [] = sym (take-nil (suc n - suc m))
+drop-take (suc m) (suc n) (x ∷ l) = let z : suc n - suc m ≡ n - m = omega arith in rw z (drop-take m n l)
+
+-- ---- texts of two parts
+
+pub take-rest : (s : List ℕ) (a : ℕ) → take (length s - a) (drop a s) ≡ drop a s
+take-rest s a = take-all (length s - a) (drop a s) (omega (arith, length-drop a s))
+
+module _ (c : ℕ) (s : List ℕ) (k : ℕ) (p : PartEnd c s 0 k) where
+  pub one-part : length s ≤ k → eqb (length (split c s)) 2 ≡ false
+  one-part h = rw (p .parts, after-last c s k h)
+
+  pub two-parts : (e : ℕ) → k < length s → PartEnd c s (k + 1) e → length s ≤ e → split c s ≡ take k s ∷ drop (k + 1) s ∷ []
+  two-parts e h q g =
+      let j : e ≡ length s = omega (arith, q .high) in
+      rw (p .parts, after-next c s k h, q .parts, after-last c s e g, j, take-rest, sub-zero)
+
+  pub many-parts : (e : ℕ) → k < length s → PartEnd c s (k + 1) e → e < length s → eqb (length (split c s)) 2 ≡ false
+  many-parts e h q g =
+      rw (p .parts, after-next c s k h, q .parts, after-next c s e g)
+      (ne-eqb (suc (suc (length (split c (drop (e + 1) s))))) 2 (λ y. omega (arith, split-some c (drop (e + 1) s))))
+
+single : (c : ℕ) (xs : List ℕ) → length (split c xs) ≡ 1 → split c xs ≡ xs ∷ []
+single c xs e = elim (decLt (until c xs) (length xs)) [
+  | yes h ↦ absurd (omega (arith, split-some c (drop (until c xs + 1) xs), sym (ap length (split-next c xs h)) ∙ e))
+  | no h ↦ let g : length xs ≤ until c xs = omega arith in split-last c xs g ∙ ap (λ (p : List ℕ). p ∷ []) (take-all (until c xs) xs g)
+]
+
+-- the two parts of a text that has just two, of which the first has k bytes
+pub split-two : (c : ℕ) (l : List ℕ) (k : ℕ) → length (split c l) ≡ 2 → length (getD (split c l) 0 []) ≡ k
+    → (k < length l) × (split c l ≡ take k l ∷ drop (k + 1) l ∷ [])
+split-two c l k e q = elim (decLt (until c l) (length l)) [
+  | yes h ↦
+      let n : length (take (until c l) l) ≡ until c l = length-take-le (until c l) l (until-le c l) in
+      let j : until c l ≡ k = sym n ∙ (rw (split-next c l h) at q) in
+      let r = single c (drop (until c l + 1) l) (omega (arith, sym (ap length (split-next c l h)) ∙ e)) in
+      (omega arith, rw (sym j) (split-next c l h ∙ ap (λ (ps : List (List ℕ)). take (until c l) l ∷ ps) r))
+  | no h ↦ let g : length l ≤ until c l = omega arith in absurd (omega (arith, sym (ap length (split-last c l g)) ∙ e))
+]

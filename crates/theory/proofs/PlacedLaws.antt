@@ -1,0 +1,96 @@
+-- The scenario of any placing is a closed grid, so closing removes nothing that a placing uses. Assumes nothing.
+use mathlib.Core.Path.{_≡_, sym, ap, _∙_, subst}
+use mathlib.Core.Bool.{Bool}
+use mathlib.Core.List.{List}
+use Prim.Native.Nat.{ℕ, _^_, _<_, _≤_}
+use native.Mathlib.Omega.{arith}
+use lib.Bits.{bitAnd, and-le-r}
+use lib.Dec.{T, eqb, eqb→eq, eqb-refl}
+use Rattle.relation.specs.Comparing.{relOf}
+use Rattle.relation.specs.Meaning.{Event, exchanged}
+use Rattle.relation.specs.Sets.{member, Inside}
+use Rattle.relation.specs.Composition.{converse, compose}
+use Rattle.relation.proofs.Tested.{T-of, of-T}
+use Rattle.relation.proofs.SetLaws.{member-none, member-mark, mark-lt, and-inside, inside-and, same-inside}
+use Rattle.relation.proofs.LowestLaws.{some-member}
+use Rattle.relation.proofs.Relations.{relOf-lt}
+use Rattle.relation.proofs.ExchangeLaws.{exchanged-lt, exchanged-twice, member-converse, converse-lt}
+use Rattle.relation.proofs.Laws.{compose-placed}
+use Rattle.theory.specs.Allen.{allen}
+use Rattle.theory.specs.Closing.{Cells, Closed, Within, Closing}
+
+-- ---- the set of one relation
+
+member-self : (r : ℕ) → r < 13 → T (member r (2 ^ r))
+member-self r h = T-of (member-mark r r h h ∙ of-T (eqb r r) (eqb-refl r))
+
+pub member-only : (r s : ℕ) → r < 13 → s < 13 → T (member s (2 ^ r)) → s ≡ r
+member-only r s h k w = eqb→eq s r (subst T (member-mark r s h k) w)
+
+-- r is in a exactly if its set lies inside a
+pub mark-inside : (r a : ℕ) → r < 13 → T (member r a) → bitAnd (2 ^ r) a ≡ 2 ^ r
+mark-inside r a h w =
+    inside-and (2 ^ r) a (mark-lt r h) (record { each = λ s k v. subst (λ (x : ℕ). T (member x a)) (sym (member-only r s h k v)) w })
+
+pub inside-mark : (r a : ℕ) → r < 13 → bitAnd (2 ^ r) a ≡ 2 ^ r → T (member r a)
+inside-mark r a h e = and-inside (2 ^ r) a e .each r h (member-self r h)
+
+-- a set inside that of r alone has nothing, or r
+pub only-mark : (r a : ℕ) → r < 13 → bitAnd a (2 ^ r) ≡ a → (a ≡ 0 → ⊥) → a ≡ 2 ^ r
+only-mark r a h e nz =
+    let l : a < 8192 = omega (arith, and-le-r a (2 ^ r), mark-lt r h) in
+    let i = and-inside a (2 ^ r) e in
+    let m = some-member a (omega arith) l in
+    same-inside a (2 ^ r) l (mark-lt r h) i
+    (record {
+      each = λ s k v.
+          subst (λ (x : ℕ). T (member x a)) (member-only r (m .0) h (m .1) (i .each (m .0) (m .1) (m .2)) ∙ sym (member-only r s h k v)) (m .2);
+    })
+
+pub converse-mark : (r : ℕ) → r < 13 → converse (2 ^ r) ≡ 2 ^ exchanged r
+converse-mark r h =
+    same-inside (converse (2 ^ r)) (2 ^ exchanged r) (converse-lt (2 ^ r)) (mark-lt (exchanged r) (exchanged-lt r h))
+    (record {
+      each = λ s k w.
+          let e = member-only r (exchanged s) h (exchanged-lt s k) (subst T (member-converse (2 ^ r) s k) w) in
+          subst (λ (x : ℕ). T (member x (2 ^ exchanged r))) (sym (ap exchanged e) ∙ exchanged-twice s k) (member-self (exchanged r) (exchanged-lt r h));
+    })
+    (record {
+      each = λ s k w.
+          let e = member-only (exchanged r) s (exchanged-lt r h) k w in
+          subst T (sym (member-converse (2 ^ r) s k))
+          (subst (λ (x : ℕ). T (member x (2 ^ r))) (sym (ap exchanged e ∙ exchanged-twice r h)) (member-self r h));
+    })
+
+-- ---- the scenario of a placing
+
+abbrev pub scenarioOf : (ℕ → Event) → Cells
+scenarioOf P i j = 2 ^ relOf (P i) (P j)
+
+-- the placing meets each cell
+abbrev pub Uses : ℕ → (ℕ → Event) → Cells → Type 0
+Uses n P G = (i j : ℕ) → i < n → j < n → T (member (relOf (P i) (P j)) (G i j))
+
+pub scenario-closed : (n : ℕ) (P : ℕ → Event) → Closed allen n (scenarioOf P)
+scenario-closed n P i j k hi hj hk =
+    mark-inside (relOf (P i) (P j)) (compose (scenarioOf P i k) (scenarioOf P k j)) (relOf-lt (P i) (P j))
+    (compose-placed (P i) (P k) (P j) (scenarioOf P i k) (scenarioOf P k j) (member-self (relOf (P i) (P k)) (relOf-lt (P i) (P k)))
+    (member-self (relOf (P k) (P j)) (relOf-lt (P k) (P j))))
+
+pub uses-within : (n : ℕ) (P : ℕ → Event) (G : Cells) → Uses n P G → Within allen n (scenarioOf P) G
+uses-within n P G u i j hi hj = mark-inside (relOf (P i) (P j)) (G i j) (relOf-lt (P i) (P j)) (u i j hi hj)
+
+pub within-uses : (n : ℕ) (P : ℕ → Event) (G : Cells) → Within allen n (scenarioOf P) G → Uses n P G
+within-uses n P G w i j hi hj = inside-mark (relOf (P i) (P j)) (G i j) (relOf-lt (P i) (P j)) (w i j hi hj)
+
+-- a smaller grid that a placing meets
+pub uses-more : (n : ℕ) (P : ℕ → Event) (G H : Cells) → Within allen n G H → Uses n P G → Uses n P H
+uses-more n P G H w u i j hi hj = and-inside (G i j) (H i j) (w i j hi hj) .each (relOf (P i) (P j)) (relOf-lt (P i) (P j)) (u i j hi hj)
+
+-- closing removes nothing that a placing uses
+pub closing-uses : (n : ℕ) (P : ℕ → Event) (G C : Cells) → Closing allen n G C → Uses n P G → Uses n P C
+closing-uses n P G C c u = within-uses n P C (c .largest (scenarioOf P) (scenario-closed n P) (uses-within n P G u))
+
+-- no placing meets an empty closing
+pub empty-unused : (n : ℕ) (P : ℕ → Event) (G : Cells) (i : ℕ) → i < n → Closing allen n G (λ i j. 0) → Uses n P G → ⊥
+empty-unused n P G i h c u = subst T (member-none (relOf (P i) (P i))) (closing-uses n P G (λ i j. 0) c u i i h h)

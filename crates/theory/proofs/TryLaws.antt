@@ -1,0 +1,144 @@
+-- Closing again from the one pair that was cut: a closed grid in which a pair was cut, with that pair waiting alone, is settled. Assumes nothing.
+use mathlib.Core.Path.{_≡_, refl, ap, sym, _∙_, subst}
+use mathlib.Core.Logic.{inl, inr}
+use mathlib.Core.List.{List, [], _∷_}
+use Prim.Native.Nat.{ℕ, zero, suc, _+_, _*_, _≤_, _<_}
+use native.Mathlib.Decide.{ℕ-discrete}
+use native.Mathlib.Nat.{mul-le-mul-right}
+use native.Mathlib.Omega.{arith}
+use lib.ListN.{length}
+use Rattle.grid.specs.Cells.{cell, putBoth}
+use Rattle.grid.proofs.CellLaws.{putBoth-length, cell-both-here, cell-both-mirror, cell-both-other}
+use Rattle.theory.specs.Calculus.{Calculus, Sub}
+use Rattle.theory.specs.Closing.{Closed, Closing, Within}
+use Rattle.theory.specs.Line.{pairOf, occurs, allPairs}
+use Rattle.theory.specs.Quick.{Ended, contradiction, closed, paused, run}
+use Rattle.theory.specs.Sweeps.{sum}
+use Rattle.theory.proofs.Lawful.{Lawful, EqLawful}
+use Rattle.theory.proofs.ClosingLaws.{Mirrored, reached-start, sub-refl, sub-trans, conv-mono}
+use Rattle.theory.proofs.LineLaws.{IsPair, occurs-cons-same, occurs-cons-other, occurs-nil, pair-same, pair-swap, pair-ok}
+use Rattle.theory.proofs.KeepLaws.{Good}
+use Rattle.theory.proofs.SettledLaws.{Settled, Served, Pairs, Resting, Right, run-ok}
+use Rattle.theory.proofs.StartLaws.{waits-all}
+use Rattle.theory.proofs.TakeLaws.{Sized, Bounded, store, spare, store-most, run-bound}
+use Rattle.theory.proofs.QuickRight.{Fine, Full}
+
+occurs-most : (p : ℕ) (q : List ℕ) → occurs p q ≤ length q
+unfolding occurs
+occurs-most p [] = omega arith
+occurs-most p (x ∷ q) = go (ℕ-discrete p x) (occurs-most p q)
+  where
+    go : Dec (p ≡ x) → occurs p q ≤ length q → occurs p (x ∷ q) ≤ suc (length q)
+    go (yes e) h = rw (← e) (omega (arith, occurs-cons-same p q))
+    go (no ne) h = omega (arith, occurs-cons-other p x q ne)
+
+module _ (A : Calculus) (L : Lawful A) (n : ℕ) (h : List ℕ) (F : Fine A n h) (x y : ℕ) (hx : x < n) (hy : y < n) (ne : x ≡ y → ⊥) (v : ℕ)
+    (inside : Sub A v (cell n h x y)) (back : A .conv (A .conv v) ≡ v) where
+  -- the cell and its mirror cut to v
+  abbrev g : List ℕ
+  g = putBoth (A .conv) n h x y v
+
+  here : cell n g x y ≡ v
+  here = cell-both-here (A .conv) n h (F .fits) x y v hx hy ne
+
+  mirror : cell n g y x ≡ A .conv v
+  mirror = cell-both-mirror (A .conv) n h (F .fits) x y v hx hy
+
+  other : (a b : ℕ) → b < n → ((a ≡ x) × (b ≡ y) → ⊥) → ((a ≡ y) × (b ≡ x) → ⊥) → cell n g a b ≡ cell n h a b
+  other a b hb p q = cell-both-other (A .conv) n h (F .fits) x y v hx hy a b hb p q
+
+  -- a cell of the cut grid is the cut one, its mirror, or as it was
+  cases : (P : ℕ → ℕ → ℕ → Type 0) → P x y v → P y x (A .conv v)
+      → ((a b : ℕ) → a < n → b < n → ((a ≡ x) × (b ≡ y) → ⊥) → ((a ≡ y) × (b ≡ x) → ⊥) → P a b (cell n h a b)) → (a b : ℕ) → a < n → b < n → P a b (cell n g a b)
+  cases P one two rest a b ha hb = go (ℕ-discrete a x) (ℕ-discrete b y) (ℕ-discrete a y) (ℕ-discrete b x)
+    where
+      last : ((a ≡ x) × (b ≡ y) → ⊥) → Dec (a ≡ y) → Dec (b ≡ x) → P a b (cell n g a b)
+      last p (yes q) (yes r) = rw (q, r, mirror) two
+      last p (yes q) (no r) = rw (other a b hb p (λ w. r (w .1))) (rest a b ha hb p (λ w. r (w .1)))
+      last p (no q) r = rw (other a b hb p (λ w. q (w .0))) (rest a b ha hb p (λ w. q (w .0)))
+
+      go : Dec (a ≡ x) → Dec (b ≡ y) → Dec (a ≡ y) → Dec (b ≡ x) → P a b (cell n g a b)
+      go (yes p) (yes q) d e = rw (p, q, here) one
+      go (yes p) (no q) d e = last (λ w. q (w .1)) d e
+      go (no p) q d e = last (λ w. p (w .0)) d e
+
+  pub cut-inside : Within A n (cell n g) (cell n h)
+  cut-inside =
+      cases (λ a b c. Sub A c (cell n h a b)) inside
+      (subst (Sub A (A .conv v)) (sym (F .mirrored x y hx hy)) (conv-mono A L v (cell n h x y) inside)) (λ a b ha hb p q. sub-refl A L (cell n h a b))
+
+  mirrored : Mirrored A n (cell n g)
+  mirrored =
+      cases (λ a b c. cell n g b a ≡ A .conv c) mirror (here ∙ sym back)
+      (λ a b ha hb p q. other b a ha (λ w. q (w .1, w .0)) (λ w. p (w .1, w .0)) ∙ F .mirrored a b ha hb)
+
+  pub cut-fine : Fine A n g
+  cut-fine =
+      record {
+        few = F .few;
+        fits = omega (arith, putBoth-length (A .conv) n h x y v, F .fits);
+        mirrored = mirrored;
+        diagonal = λ i hi. other i i hi (λ w. ne (sym (w .0) ∙ w .1)) (λ w. ne (sym (w .1) ∙ w .0)) ∙ F .diagonal i hi;
+        topped = λ i j hi hj. sub-trans A L (cell n g i j) (cell n h i j) (A .top i j) (cut-inside i j hi hj) (F .topped i j hi hj);
+      }
+
+  module _ (full : Full n h) (nz : v ≡ 0 → ⊥) where
+    cut-full : Full n g
+    cut-full =
+        cases (λ a b c. c ≡ 0 → ⊥) nz (λ z. nz (sym back ∙ ap (A .conv) z ∙ L .conv-zero)) (λ a b ha hb p q. full a b ha hb)
+
+    module _ (cl : Closed A n (cell n h)) where
+      settled : Settled A n g (pairOf x y ∷ [])
+      settled a b c t = go (ℕ-discrete (pairOf a c) (pairOf x y)) (ℕ-discrete (pairOf c b) (pairOf x y))
+        where
+          waits : (p : ℕ) → p ≡ pairOf x y → 0 < occurs p (pairOf x y ∷ [])
+          waits p e = rw e (omega (arith, occurs-cons-same (pairOf x y) []))
+
+          kept : (i j : ℕ) → j < n → (pairOf i j ≡ pairOf x y → ⊥) → cell n g i j ≡ cell n h i j
+          kept i j hj np = other i j hj (λ w. np (pair-same (w .0) (w .1))) (λ w. np (pair-swap (w .0) (w .1)))
+
+          go : Dec (pairOf a c ≡ pairOf x y) → Dec (pairOf c b ≡ pairOf x y) → Served A n g (pairOf x y ∷ []) a b c
+          go (yes e) f = inr (inl (waits (pairOf a c) e))
+          go (no e) (yes f) = inr (inr (waits (pairOf c b) f))
+          go (no e) (no f) =
+              inl
+              (rw (kept a c (t .hc) e, kept c b (t .hb) f)
+              (sub-trans A L (cell n g a b) (cell n h a b) (A .comp a c b (cell n h a c) (cell n h c b)) (cut-inside a b (t .ha) (t .hb))
+              (cl a b c (t .ha) (t .hb) (t .hc))))
+
+      pairs : Pairs n (pairOf x y ∷ [])
+      pairs p w = go (ℕ-discrete p (pairOf x y))
+        where
+          go : Dec (p ≡ pairOf x y) → IsPair n p
+          go (yes e) = rw e (pair-ok n x y (F .few) hx hy ne)
+          go (no np) = absurd (omega (arith, w, occurs-cons-other p (pairOf x y) [] np, occurs-nil p))
+
+      pub resting : Resting A n g g (pairOf x y ∷ [])
+      resting =
+          record {
+            good =
+                record {
+                  fits = cut-fine .fits;
+                  reached = reached-start A L n (cell n g) mirrored;
+                  diagonal = cut-fine .diagonal;
+                  topped = cut-fine .topped;
+                  full = cut-full;
+                };
+            pairs = pairs;
+            settled = settled;
+          }
+
+      -- the run from the pair alone gives the largest closed grid inside the cut one
+      pub try-right : EqLawful A → (limit : ℕ) → Right A n g (run A n limit 0 g (pairOf x y ∷ []))
+      try-right E limit = run-ok A L E n (F .few) g limit 0 g (pairOf x y ∷ []) resting
+
+      -- and 6,448 takes always suffice
+      pub try-ends : (size : ℕ → ℕ) → Sized A size → (t : ℕ) (k : List ℕ) → run A n 6448 0 g (pairOf x y ∷ []) ≡ paused t k → ⊥
+      try-ends size S t k e =
+          let w = waits-all n x y (F .few) hx hy ne in
+          let m = store-most A L size S n (F .few) g g (resting .good) in
+          let l = occurs-most (pairOf x y) (allPairs n) in
+          let b : Bounded 6448 6448 (run A n 6448 0 g (pairOf x y ∷ [])) =
+          run-bound A L size S n (F .few) g 6448 0 g (pairOf x y ∷ []) resting 6448 (omega (arith, mul-le-mul-right n (F .few), F .few)) in
+          let q : Bounded 6448 6448 (paused t k) = subst (Bounded 6448 6448) e b in
+          omega (arith, q .1)
