@@ -1,0 +1,29 @@
+-- The lines of the events, put in one after the other. Assumes nothing.
+use mathlib.Core.Path.{_≡_, _∙_, ap}
+use mathlib.Core.List.{List, []}
+use Prim.Native.Nat.{ℕ, _+_, _*_, _^_, _≤_, _<_}
+use native.Mathlib.Numerals.{add-one}
+use lib.IntN.{ℤ}
+use lib.Signed.{mag}
+use lib.ListN.{length, getD}
+use mir.Syntax.{w32}
+use mir.Val.{toZ, ofZ, hbits}
+use mir.Facts.{toZ-ofZ}
+use Rattle.placing.specs.Placing.{at, naturalOf}
+use Rattle.report.specs.Report.{eventLine, eventLines}
+use Rattle.report.specs.Steps.{Adds}
+use Rattle.report.proofs.AddsLaws.{adds-none, adds-then}
+
+pub adds-no-line : (old : List ℕ) (a : ℕ) (names : List (List ℕ)) (xs : List ℤ) → a ≤ length old → Adds old old a a (eventLines names xs 0)
+unfolding eventLines
+adds-no-line old a names xs h = adds-none old a h
+
+pub adds-line : {old mid new : List ℕ} {a b c : ℕ} (names : List (List ℕ)) (xs : List ℤ) (k : ℕ) (name : List ℕ) (start end : ℕ)
+    → name ≡ getD names k [] → start ≡ naturalOf (at xs (2 * k)) → end ≡ naturalOf (at xs (2 * k + 1))
+    → Adds old mid a b (eventLines names xs k) → Adds mid new b c (eventLine name start end) → Adds old new a c (eventLines names xs (k + 1))
+unfolding eventLines
+adds-line names xs k name start end p q r u v = rw (add-one k, ← p, ← q, ← r) (adds-then u v)
+
+-- a number of the placing, as it is handed to a call
+pub natural-is : (x : ℤ) → mag x < 2 ^ hbits w32 → (k : ℕ) → k ≡ naturalOf (toZ w32 (ofZ w32 x)) → k ≡ naturalOf x
+natural-is x h k e = let back : toZ w32 (ofZ w32 x) ≡ x = toZ-ofZ (record { sfits = h }) in e ∙ ap naturalOf back

@@ -1,0 +1,20 @@
+// Prints only the first line of what `place` prints for the sheet on standard input. The bytes are those of `report`; this
+// program only reads and writes.
+use desk::ROOM;
+use libc::STDERR_FILENO;
+use libc::STDOUT_FILENO;
+
+fn main() {
+    let mut sheet = [0u8; ROOM];
+    let n = desk::read_sheet(&mut sheet);
+    if ROOM < n {
+        io::write_all(STDERR_FILENO, b"triage: the sheet could not be read\n");
+        return;
+    }
+    let printed = report::triage_report(&sheet[..n], report::ALLOWANCE);
+    let bytes = printed.bytes;
+    let len = printed.len;
+    if !io::write_all(STDOUT_FILENO, &bytes[..len]) {
+        io::write_all(STDERR_FILENO, b"triage: the answer could not be written\n");
+    }
+}
