@@ -10,3 +10,4 @@ pub mod ExchangeLaws
 pub mod TableLaws
 pub mod Laws
 pub mod HalfRowLaws
+pub mod AnswerLaws
