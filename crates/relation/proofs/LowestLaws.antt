@@ -1,11 +1,12 @@
 -- The lowest member of a set, and the set without it. Assumes nothing.
 use mathlib.Core.Path.{_≡_, refl, sym, ap, ap₂, _∙_, subst}
 use mathlib.Core.Bool.{Bool, true, false, not, _&&_}
-use Prim.Native.Nat.{ℕ, zero, suc, _+_, _-_, _*_, _/_, _%_, _^_, _<_, _≤_, suc-le-suc}
+use Prim.Native.Nat.{ℕ, zero, suc, _+_, _-_, _*_, _/_, _%_, _^_, _<_, _≤_, min, suc-le-suc}
 use native.Mathlib.Nat.{pow-suc, not-suc-le-zero, zero-lt-suc, le-of-suc-le-suc, lt-of-not-le}
 use native.Mathlib.Omega.{arith}
 use lib.Dec.{T, eqb, eqb·suc-suc, eqb·zero-suc, eqb·suc-zero}
 use lib.Pow.{pow-pos, pow-mono}
+use lib.Bits.{bitAnd, and-self, and-step}
 use lib.Count.{trailingZeros, under}
 use borrow.Author.Tests.{eqb-true}
 use Rattle.relation.specs.Sets.{member}
@@ -85,6 +86,27 @@ member-without (suc t) n (suc u) e =
     let z : (n - 2 ^ suc t) / 2 ≡ n / 2 - 2 ^ t = omega arith in
     member-high u (n - 2 ^ suc t) ∙ ap (member u) z ∙ member-without t (n / 2) u h
     ∙ ap₂ (λ (x y : Bool). x && not y) (sym (member-high u n)) (sym (eqb·suc-suc u t))
+
+-- without the lowest member: n cut with the number before it
+pub cut-lowest : (k n : ℕ) → zero < n → n < 2 ^ k → bitAnd n (n - 1) ≡ n - 2 ^ trailingZeros k n
+unfolding trailingZeros
+cut-lowest zero n h l = omega arith
+cut-lowest (suc k) n h l = go (n % 2) refl (λ p. cut-lowest k (n / 2) p (let e = pow-suc 2 k in omega arith))
+  where
+    go : (d : ℕ) → n % 2 ≡ d → (zero < n / 2 → bitAnd (n / 2) (n / 2 - 1) ≡ n / 2 - 2 ^ trailingZeros k (n / 2))
+        → bitAnd n (n - 1) ≡ n - 2 ^ under d (trailingZeros k (n / 2))
+    go zero e f =
+        let half : (n - 1) / 2 ≡ n / 2 - 1 = omega arith in
+        let step : bitAnd n (n - 1) ≡ bitAnd (n / 2) (n / 2 - 1) * 2 + min (n % 2) ((n - 1) % 2) =
+        and-step n (n - 1) ∙ ap (λ (x : ℕ). bitAnd (n / 2) x * 2 + min (n % 2) ((n - 1) % 2)) half in
+        let rest = f (omega arith) in
+        let p = pow-suc 2 (trailingZeros k (n / 2)) in
+        omega arith
+    go (suc d) e f =
+        let half : (n - 1) / 2 ≡ n / 2 = omega arith in
+        let step : bitAnd n (n - 1) ≡ n / 2 * 2 + min (n % 2) ((n - 1) % 2) =
+        and-step n (n - 1) ∙ ap (λ (x : ℕ). x * 2 + min (n % 2) ((n - 1) % 2)) (ap (bitAnd (n / 2)) half ∙ and-self (n / 2)) in
+        omega arith
 
 -- of the thirteen
 pub lowest-thirteen : (n : ℕ) → zero < n → n < 8192 → Lowest 13 n (trailingZeros 16 n)

@@ -10,7 +10,7 @@ use lib.Count.{trailingZeros}
 use Rattle.relation.specs.Sets.{member, setOf, some, unionOver, Inside}
 use Rattle.relation.proofs.Tested.{T-of, of-T, and-left, and-right, and-both, or-cases, or-left, or-right, or-assoc, some-at, some-in, both-ways}
 use Rattle.relation.proofs.SetLaws.{member-or, member-low-marks, member-none, member-mark, mark-lt, same, setOf-lt, member-setOf, same-inside, inside-or-left, inside-or-right, or-inside}
-use Rattle.relation.proofs.LowestLaws.{Lowest, lowest-thirteen, mark-le, member-without}
+use Rattle.relation.proofs.LowestLaws.{lowest-thirteen, mark-le, member-without}
 
 -- ---- the members of a union
 
@@ -109,17 +109,18 @@ module _ (f : ℕ → ℕ) (a b : ℕ) where
 pub record Next (left r : ℕ) : Type 0 where
   pub small : r < 13
   pub is-in : member r left ≡ true
-  pub less : left - 2 ^ r < left
+  pub is-lowest : r ≡ trailingZeros 16 left
+  pub less : left - 2 ^ trailingZeros 16 left < left
   pub left-lt : left - 2 ^ r < 8192
 
 pub next-of : (left r : ℕ) → (left ≡ 0 → ⊥) → left < 8192 → r ≡ trailingZeros 16 left → Next left r
-next-of left r nz l e = subst (Next left) (sym e) (go (trailingZeros 16 left) (lowest-thirteen left (omega arith) l))
-  where
-    go : (t : ℕ) → Lowest 13 left t → Next left t
-    go t w =
-        let p = pow-pos t in
-        let q = mark-le t left (w .is-in) in
-        record { small = w .below; is-in = w .is-in; less = omega arith; left-lt = omega arith }
+next-of left r nz l e =
+    let t = trailingZeros 16 left in
+    let w = lowest-thirteen left (omega arith) l in
+    let p = pow-pos t in
+    let q = mark-le t left (w .is-in) in
+    subst (Next left) (sym e)
+    (record { small = w .below; is-in = w .is-in; is-lowest = refl; less = omega arith; left-lt = omega arith })
 
 module _ (f : ℕ → ℕ) (left r : ℕ) (l : left < 8192) (next : Next left r) where
   -- a member is r, or one of the rest
@@ -172,10 +173,10 @@ pub record Gathers (f : ℕ → ℕ) (a out left : ℕ) : Type 0 where
 pub gathers-start : (f : ℕ → ℕ) (a : ℕ) → Gathers f a 0 (a % 8192)
 gathers-start f a = record { out-lt = lit< tt; left-lt = omega arith; whole = sym (union-small f a) ∙ sym (lib.Bits.or-zero-l (unionOver f (a % 8192))) }
 
-pub gathers-turn : (f : ℕ → ℕ) (a out left r x next : ℕ) → f r < 8192 → Next left r → Gathers f a out left → x ≡ f r → next ≡ left - 2 ^ r
-    → Gathers f a (bitOr out x) next
+pub gathers-turn : (f : ℕ → ℕ) (a out left r x next : ℕ) → f r < 8192 → Next left r → Gathers f a out left → x ≡ f r
+    → next ≡ left - 2 ^ trailingZeros 16 left → Gathers f a (bitOr out x) next
 gathers-turn f a out left r x next m n g e d =
-    subst (λ (y : ℕ). Gathers f a (bitOr out x) y) (sym d)
+    subst (λ (y : ℕ). Gathers f a (bitOr out x) y) (sym (d ∙ ap (λ (t : ℕ). left - 2 ^ t) (sym (n .is-lowest))))
     (subst (λ (y : ℕ). Gathers f a (bitOr out y) (left - 2 ^ r)) (sym e)
     (record {
       out-lt = or-lt 13 out (f r) (g .out-lt) m;

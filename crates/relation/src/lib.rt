@@ -1,10 +1,8 @@
 // Sets of the thirteen relations: converse and composition.
 ghost use mathlib.Core.Path.{_≡_};
-ghost use mathlib.Core.Bool.{true};
 ghost use Prim.Native.Nat.{_-_, _^_, _<_};
 ghost use lib.Count.{trailingZeros};
 ghost use Rattle.relation.specs.Meaning.{exchanged};
-ghost use Rattle.relation.specs.Sets.{member};
 ghost use Rattle.relation.specs.Composition.{table, converse, composeRow, compose};
 ghost use Rattle.relation.specs.HalfRows.{halfSet, HalfRows};
 ghost use Rattle.relation.specs.Answers.{saidOf, converseSaid, composeSaid};
@@ -69,12 +67,12 @@ pub fn mark(r: usize) -> u16
     1 << r
 }
 
-// A set without one of its members.
-pub fn without(a: u16, r: usize) -> u16
-    requires { ⌜ (r < 13) × (member r a ≡ true) ⌝ }
-    ensures { λ x. ⌜ x ≡ a - 2 ^ r ⌝ }
+// A set without its lowest member. Taking 1 away changes that mark and those below it only, so the cut drops just that mark.
+pub fn without_lowest(a: u16) -> u16
+    requires { ⌜ 0 < a ⌝ }
+    ensures { λ x. ⌜ x ≡ a - 2 ^ trailingZeros 16 a ⌝ }
 {
-    a - mark(r)
+    a & (a - 1)
 }
 
 // The converse of a set, by its members.
@@ -86,7 +84,7 @@ pub fn converse_of(a: u16) -> u16
     while left != 0 {
         let r = lowest(left);
         out |= mark(exchanged(r));
-        left = without(left, r);
+        left = without_lowest(left);
     }
     out
 }
@@ -101,7 +99,7 @@ fn compose_row(t: &[[u16; 13]; 13], r: usize, b: u16) -> u16
     while left != 0 {
         let s = lowest(left);
         out |= t[r][s];
-        left = without(left, s);
+        left = without_lowest(left);
     }
     out
 }
@@ -116,7 +114,7 @@ fn compose_of(a: u16, b: u16) -> u16
     while left != 0 {
         let r = lowest(left);
         out |= compose_row(&t, r, b);
-        left = without(left, r);
+        left = without_lowest(left);
     }
     out
 }
@@ -158,7 +156,7 @@ pub fn compose_by_rows(rows: &[u16; 2496], a: u16, b: u16) -> u16
     while left != 0 {
         let r = lowest(left);
         out |= rows[r * 192 + low] | rows[r * 192 + high];
-        left = without(left, r);
+        left = without_lowest(left);
     }
     out
 }

@@ -54,19 +54,19 @@ mul-out-4 c = let n = next-of (c .before .before .before .loop .left) (c .before
 element-copy-out-out-2 : tie.Need-element-copy-out-out-2 Inv-loop μ-loop
 element-copy-out-out-2 c = let n = next-of (c .before .before .before .loop .left) (c .before .lowest .result) (c .before .before .loop-test .taken) (c .before .before .before .loop .inv .left-lt) (c .before .lowest .ensures) in search needs
 
-without-requires : tie.Need-without-requires Inv-loop μ-loop
-without-requires c κs = let n = next-of (c .before .before .before .before .loop .left) (c .before .before .lowest .result) (c .before .before .before .loop-test .taken) (c .before .before .before .before .loop .inv .left-lt) (c .before .before .lowest .ensures) in (n .small, n .is-in)
+without-lowest-requires : tie.Need-without-lowest-requires Inv-loop μ-loop
+without-lowest-requires c κs = search needs
 
 loop-less : tie.Need-loop-less Inv-loop μ-loop
-loop-less c = let n = next-of (c .before .before .before .before .before .loop .left) (c .before .before .before .lowest .result) (c .before .before .before .before .loop-test .taken) (c .before .before .before .before .before .loop .inv .left-lt) (c .before .before .before .lowest .ensures) in rw (c .without .ensures) (n .less)
+loop-less c = let n = next-of (c .before .before .before .before .before .loop .left) (c .before .before .before .lowest .result) (c .before .before .before .before .loop-test .taken) (c .before .before .before .before .before .loop .inv .left-lt) (c .before .before .before .lowest .ensures) in rw (c .without-lowest .ensures) (n .less)
 
 loop-again : tie.Need-loop-again Inv-loop μ-loop
 loop-again c =
     let b = c .before .before .before .before .before .before .args .b in
     let r = c .before .before .before .lowest .result in
     let n = next-of (c .before .before .before .before .before .loop .left) (c .before .before .before .lowest .result) (c .before .before .before .before .loop-test .taken) (c .before .before .before .before .before .loop .inv .left-lt) (c .before .before .before .lowest .ensures) in
-    gathers-turn (λ r. composeRow r b) (c .before .before .before .before .before .before .args .a) (c .before .before .before .before .before .loop .out) (c .before .before .before .before .before .loop .left) r _ (c .without .result)
-    (row-lt r b) n (c .before .before .before .before .before .loop .inv) (rows-give (c .before .before .before .before .before .before .args .rows .now) r b (c .before .before .before .before .before .before .pre) (n .small)) (c .without .ensures)
+    gathers-turn (λ r. composeRow r b) (c .before .before .before .before .before .before .args .a) (c .before .before .before .before .before .loop .out) (c .before .before .before .before .before .loop .left) r _ (c .without-lowest .result)
+    (row-lt r b) n (c .before .before .before .before .before .loop .inv) (rows-give (c .before .before .before .before .before .before .args .rows .now) r b (c .before .before .before .before .before .before .pre) (n .small)) (c .without-lowest .ensures)
 
 returns : tie.Need-returns Inv-loop μ-loop
 unfolding compose
@@ -91,7 +91,7 @@ compose-by-rows-spec =
     add-out-2
     mul-out-4
     element-copy-out-out-2
-    without-requires
+    without-lowest-requires
     loop-less
     loop-again
     returns)

@@ -24,19 +24,19 @@ compose-row-requires : tie.Need-compose-row-requires Inv-loop μ-loop
 unfolding table
 compose-row-requires c κs = ((next-of (c .before .before .before .loop .left) (c .before .lowest .result) (c .before .before .loop-test .taken) (c .before .before .before .loop .inv .left-lt) (c .before .lowest .ensures)) .small, refl)
 
-without-requires : tie.Need-without-requires Inv-loop μ-loop
-without-requires c κs = let n = next-of (c .before .before .before .before .loop .left) (c .before .before .lowest .result) (c .before .before .before .loop-test .taken) (c .before .before .before .before .loop .inv .left-lt) (c .before .before .lowest .ensures) in (n .small, n .is-in)
+without-lowest-requires : tie.Need-without-lowest-requires Inv-loop μ-loop
+without-lowest-requires c κs = search needs
 
 loop-less : tie.Need-loop-less Inv-loop μ-loop
-loop-less c = let n = next-of (c .before .before .before .before .before .loop .left) (c .before .before .before .lowest .result) (c .before .before .before .before .loop-test .taken) (c .before .before .before .before .before .loop .inv .left-lt) (c .before .before .before .lowest .ensures) in rw (c .without .ensures) (n .less)
+loop-less c = let n = next-of (c .before .before .before .before .before .loop .left) (c .before .before .before .lowest .result) (c .before .before .before .before .loop-test .taken) (c .before .before .before .before .before .loop .inv .left-lt) (c .before .before .before .lowest .ensures) in rw (c .without-lowest .ensures) (n .less)
 
 loop-again : tie.Need-loop-again Inv-loop μ-loop
 loop-again c =
     let b = c .before .before .before .before .before .before .args .b in
     let r = c .before .before .before .lowest .result in
     let n = next-of (c .before .before .before .before .before .loop .left) (c .before .before .before .lowest .result) (c .before .before .before .before .loop-test .taken) (c .before .before .before .before .before .loop .inv .left-lt) (c .before .before .before .lowest .ensures) in
-    gathers-turn (λ r. composeRow r b) (c .before .before .before .before .before .before .args .a) (c .before .before .before .before .before .loop .out) (c .before .before .before .before .before .loop .left) r (c .before .compose-row .result) (c .without .result)
-    (row-lt r b) n (c .before .before .before .before .before .loop .inv) (c .before .compose-row .ensures) (c .without .ensures)
+    gathers-turn (λ r. composeRow r b) (c .before .before .before .before .before .before .args .a) (c .before .before .before .before .before .loop .out) (c .before .before .before .before .before .loop .left) r (c .before .compose-row .result) (c .without-lowest .result)
+    (row-lt r b) n (c .before .before .before .before .before .loop .inv) (c .before .compose-row .ensures) (c .without-lowest .ensures)
 
 returns : tie.Need-returns Inv-loop μ-loop
 unfolding compose
@@ -51,7 +51,7 @@ compose-of-spec =
     loop-holds
     lowest-requires
     compose-row-requires
-    without-requires
+    without-lowest-requires
     loop-less
     loop-again
     returns)

@@ -32,20 +32,20 @@ index-1-out c = let n = next-of (c .before .before .loop .left) (c .lowest .resu
 index-2-out : tie.Need-index-2-out Inv-loop μ-loop
 index-2-out c = let n = next-of (c .before .before .loop .left) (c .lowest .result) (c .before .loop-test .taken) (c .before .before .loop .inv .left-lt) (c .lowest .ensures) in search needs
 
-without-requires : tie.Need-without-requires Inv-loop μ-loop
-without-requires c κs = let n = next-of (c .before .before .before .loop .left) (c .before .lowest .result) (c .before .before .loop-test .taken) (c .before .before .before .loop .inv .left-lt) (c .before .lowest .ensures) in (n .small, n .is-in)
+without-lowest-requires : tie.Need-without-lowest-requires Inv-loop μ-loop
+without-lowest-requires c κs = search needs
 
 loop-less : tie.Need-loop-less Inv-loop μ-loop
-loop-less c = let n = next-of (c .before .before .before .before .loop .left) (c .before .before .lowest .result) (c .before .before .before .loop-test .taken) (c .before .before .before .before .loop .inv .left-lt) (c .before .before .lowest .ensures) in rw (c .without .ensures) (n .less)
+loop-less c = let n = next-of (c .before .before .before .before .loop .left) (c .before .before .lowest .result) (c .before .before .before .loop-test .taken) (c .before .before .before .before .loop .inv .left-lt) (c .before .before .lowest .ensures) in rw (c .without-lowest .ensures) (n .less)
 
 loop-again : tie.Need-loop-again Inv-loop μ-loop
 loop-again c =
     let r = c .before .before .before .before .before .args .r in
     let s = c .before .before .lowest .result in
     let n = next-of (c .before .before .before .before .loop .left) (c .before .before .lowest .result) (c .before .before .before .loop-test .taken) (c .before .before .before .before .loop .inv .left-lt) (c .before .before .lowest .ensures) in
-    gathers-turn (entry r) (c .before .before .before .before .before .args .b) (c .before .before .before .before .loop .out) (c .before .before .before .before .loop .left) s _ (c .without .result)
+    gathers-turn (entry r) (c .before .before .before .before .before .args .b) (c .before .before .before .before .loop .out) (c .before .before .before .before .loop .left) s _ (c .without-lowest .result)
     (entry-lt r s (c .before .before .before .before .before .pre .0) (n .small)) n (c .before .before .before .before .loop .inv)
-    (entry-read (c .before .before .before .before .before .args .t .now) r s (c .before .before .before .before .before .pre .1)) (c .without .ensures)
+    (entry-read (c .before .before .before .before .before .args .t .now) r s (c .before .before .before .before .before .pre .1)) (c .without-lowest .ensures)
 
 returns : tie.Need-returns Inv-loop μ-loop
 unfolding composeRow
@@ -63,7 +63,7 @@ compose-row-spec =
     mul-out-2
     index-1-out
     index-2-out
-    without-requires
+    without-lowest-requires
     loop-less
     loop-again
     returns)

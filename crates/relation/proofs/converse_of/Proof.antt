@@ -28,19 +28,19 @@ exchanged-requires c κs = (next-of (c .before .before .loop .left) (c .lowest .
 mark-requires : tie.Need-mark-requires Inv-loop μ-loop
 mark-requires c κs = let n = next-of (c .before .before .before .loop .left) (c .before .lowest .result) (c .before .before .loop-test .taken) (c .before .before .before .loop .inv .left-lt) (c .before .lowest .ensures) in rw (c .exchanged .ensures) (exchanged-lt (c .before .lowest .result) (n .small))
 
-without-requires : tie.Need-without-requires Inv-loop μ-loop
-without-requires c κs = let n = next-of (c .before .before .before .before .loop .left) (c .before .before .lowest .result) (c .before .before .before .loop-test .taken) (c .before .before .before .before .loop .inv .left-lt) (c .before .before .lowest .ensures) in (n .small, n .is-in)
+without-lowest-requires : tie.Need-without-lowest-requires Inv-loop μ-loop
+without-lowest-requires c κs = search needs
 
 loop-less : tie.Need-loop-less Inv-loop μ-loop
-loop-less c = let n = next-of (c .before .before .before .before .before .loop .left) (c .before .before .before .lowest .result) (c .before .before .before .before .loop-test .taken) (c .before .before .before .before .before .loop .inv .left-lt) (c .before .before .before .lowest .ensures) in rw (c .without .ensures) (n .less)
+loop-less c = let n = next-of (c .before .before .before .before .before .loop .left) (c .before .before .before .lowest .result) (c .before .before .before .before .loop-test .taken) (c .before .before .before .before .before .loop .inv .left-lt) (c .before .before .before .lowest .ensures) in rw (c .without-lowest .ensures) (n .less)
 
 loop-again : tie.Need-loop-again Inv-loop μ-loop
 loop-again c =
     let r = c .before .before .before .lowest .result in
     let n = next-of (c .before .before .before .before .before .loop .left) (c .before .before .before .lowest .result) (c .before .before .before .before .loop-test .taken) (c .before .before .before .before .before .loop .inv .left-lt) (c .before .before .before .lowest .ensures) in
-    gathers-turn (λ r. 2 ^ exchanged r) (c .before .before .before .before .before .before .args .a) (c .before .before .before .before .before .loop .out) (c .before .before .before .before .before .loop .left) r (c .before .mark .result) (c .without .result)
+    gathers-turn (λ r. 2 ^ exchanged r) (c .before .before .before .before .before .before .args .a) (c .before .before .before .before .before .loop .out) (c .before .before .before .before .before .loop .left) r (c .before .mark .result) (c .without-lowest .result)
     (mark-lt (exchanged r) (exchanged-lt r (n .small))) n (c .before .before .before .before .before .loop .inv)
-    (c .before .mark .ensures ∙ ap (λ (k : ℕ). 2 ^ k) (c .before .before .exchanged .ensures)) (c .without .ensures)
+    (c .before .mark .ensures ∙ ap (λ (k : ℕ). 2 ^ k) (c .before .before .exchanged .ensures)) (c .without-lowest .ensures)
 
 returns : tie.Need-returns Inv-loop μ-loop
 unfolding converse
@@ -56,7 +56,7 @@ converse-of-spec =
     lowest-requires
     exchanged-requires
     mark-requires
-    without-requires
+    without-lowest-requires
     loop-less
     loop-again
     returns)
