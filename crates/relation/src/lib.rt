@@ -2,7 +2,7 @@
 ghost use mathlib.Core.Path.{_≡_};
 ghost use Prim.Native.Nat.{_-_, _^_, _<_};
 ghost use lib.Count.{trailingZeros};
-ghost use Rattle.relation.specs.Meaning.{exchanged};
+ghost use Rattle.relation.specs.Meaning.{exchanged, ListsExchanged};
 ghost use Rattle.relation.specs.Composition.{table, converse, composeRow, compose};
 ghost use Rattle.relation.specs.HalfRows.{halfSet, HalfRows};
 ghost use Rattle.relation.specs.Answers.{saidOf, converseSaid, composeSaid};
@@ -19,7 +19,7 @@ pub enum SetAnswer {
 }
 
 // The number of each relation with the two events exchanged.
-const EXCHANGED: [usize; 13] = [1, 0, 3, 2, 5, 4, 7, 6, 9, 8, 11, 10, 12];
+const EXCHANGED: [u8; 13] = [1, 0, 3, 2, 5, 4, 7, 6, 9, 8, 11, 10, 12];
 
 // The converse of a set; refusal 3 for a set above 8191.
 pub fn converse(a: u16) -> SetAnswer
@@ -45,11 +45,12 @@ pub fn compose(a: u16, b: u16) -> SetAnswer
     SetAnswer::Set(compose_of(a, b))
 }
 
-fn exchanged(r: usize) -> usize
-    requires { ⌜ r < 13 ⌝ }
+// A relation with the two events exchanged, from the lent list: a constant would be copied here at every use.
+fn exchanged(list: &[u8; 13], r: usize) -> usize
+    requires { ⌜ (r < 13) × ListsExchanged (now list) ⌝ }
     ensures { λ x. ⌜ x ≡ exchanged r ⌝ }
 {
-    EXCHANGED[r]
+    list[r] as usize
 }
 
 // The lowest member of a set that has one.
@@ -79,11 +80,12 @@ pub fn without_lowest(a: u16) -> u16
 pub fn converse_of(a: u16) -> u16
     ensures { λ x. ⌜ x ≡ converse a ⌝ }
 {
+    let list = EXCHANGED;
     let mut out: u16 = 0;
     let mut left = a % 8192;
     while left != 0 {
         let r = lowest(left);
-        out |= mark(exchanged(r));
+        out |= mark(exchanged(&list, r));
         left = without_lowest(left);
     }
     out

@@ -1,28 +1,21 @@
--- `exchanged` reads the typed list, and one test over the list holds each of its numbers to the rule.
-use mathlib.Core.List.{List, [], _∷_}
-use Prim.Native.Nat.{ℕ}
-use lib.Dec.{eqb, eqb→eq}
-use lib.ListN.{getD}
+-- `exchanged` reads the lent list, whose numbers are below 13.
+use native.Mathlib.Omega.{arith}
 use borrow.Author.Needs.{needs}
-use Rattle.relation.specs.Meaning.{exchanged}
-use Rattle.relation.proofs.Tested.{all-at}
+use Rattle.relation.proofs.ExchangeLaws.{exchanged-lt}
 use Rattle.relation.proofs.exchanged.Statement.{statement}
 use Rattle.relation.proofs.exchanged.Tie as tie
 
-mul-result : tie.Need-mul-result
-mul-result c = search needs
+element-copy-out-result : tie.Need-element-copy-out-result
+element-copy-out-result c = search needs
 
-array-read-result : tie.Need-array-read-result
-array-read-result c = search needs
-
-typed : List ℕ
-typed = 1 ∷ 0 ∷ 3 ∷ 2 ∷ 5 ∷ 4 ∷ 7 ∷ 6 ∷ 9 ∷ 8 ∷ 11 ∷ 10 ∷ 12 ∷ []
+cast-result : tie.Need-cast-result
+cast-result c =
+    let e = c .before in
+    let r = e .args .r in
+    omega (arith, e .pre .1 .at r (e .pre .0), exchanged-lt r (e .pre .0))
 
 returns : tie.Need-returns
-unfolding typed exchanged
-returns c =
-    eqb→eq (getD typed (c .args .r) 0) (exchanged (c .args .r))
-    (all-at 13 (λ r. eqb (getD typed r 0) (exchanged r)) tt (c .args .r) (c .pre))
+returns c = c .before .pre .1 .at (c .before .args .r) (c .before .pre .0)
 
 pub exchanged-spec : {M : Type 1} → statement M
-exchanged-spec = tie.close (tie.spec mul-result array-read-result returns)
+exchanged-spec = tie.close (tie.spec element-copy-out-result cast-result returns)
