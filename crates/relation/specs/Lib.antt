@@ -3,4 +3,5 @@ pub mod Comparing
 pub mod Sets
 pub mod Composition
 pub mod HalfRows
+pub mod Typed
 pub mod Answers

@@ -2,7 +2,7 @@
 use mathlib.Core.Path.{_≡_}
 use mathlib.Core.Bool.{Bool, true, false}
 use mathlib.Core.List.{List, [], _∷_}
-use Prim.Native.Nat.{ℕ, _+_, _-_, _%_, _<_}
+use Prim.Native.Nat.{ℕ, _+_, _-_, _%_}
 use lib.Dec.{eqb}
 use lib.ListN.{getD}
 use lib.IntN.{ℤ}
@@ -60,7 +60,3 @@ pickℕ false a b = b
 -- the number of relation r with X and Y exchanged: neighbours change places, and eq is kept
 unfoldable pub exchanged : ℕ → ℕ
 exchanged r = pickℕ (eqb r 12) 12 (pickℕ (eqb (r % 2) 0) (r + 1) (r - 1))
-
--- a list of the thirteen numbers, each exchanged
-pub record ListsExchanged (l : List ℕ) : Type 0 where
-  pub at : (r : ℕ) → r < 13 → getD l r 0 ≡ exchanged r

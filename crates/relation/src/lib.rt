@@ -2,7 +2,8 @@
 ghost use mathlib.Core.Path.{_≡_};
 ghost use Prim.Native.Nat.{_-_, _^_, _<_};
 ghost use lib.Count.{trailingZeros};
-ghost use Rattle.relation.specs.Meaning.{exchanged, ListsExchanged};
+ghost use Rattle.relation.specs.Meaning.{exchanged};
+ghost use Rattle.relation.specs.Typed.{ListsExchanged};
 ghost use Rattle.relation.specs.Composition.{table, converse, composeRow, compose};
 ghost use Rattle.relation.specs.HalfRows.{halfSet, HalfRows};
 ghost use Rattle.relation.specs.Answers.{saidOf, converseSaid, composeSaid};

@@ -4,7 +4,8 @@ use mathlib.Core.List.{List, [], _∷_}
 use Prim.Native.Nat.{ℕ, _^_}
 use lib.Dec.{eqb, eqb→eq}
 use lib.ListN.{getD}
-use Rattle.relation.specs.Meaning.{exchanged, ListsExchanged}
+use Rattle.relation.specs.Meaning.{exchanged}
+use Rattle.relation.specs.Typed.{ListsExchanged}
 use Rattle.relation.specs.Composition.{converse}
 use Rattle.relation.proofs.Tested.{all-at}
 use Rattle.relation.proofs.SetLaws.{mark-lt}
