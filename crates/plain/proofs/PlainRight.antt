@@ -3,10 +3,10 @@ use mathlib.Core.Path.{_≡_, refl, ap, sym, _∙_, subst}
 use mathlib.Core.Logic.{_⊎_, inl, inr}
 use mathlib.Core.Bool.{Bool, true, false}
 use mathlib.Core.List.{List}
-use Prim.Native.Nat.{ℕ, zero, suc, _+_, _*_, _/_, _%_, _≤_, _<_}
+use Prim.Native.Nat.{ℕ, _*_, _/_, _%_, _<_}
 use native.Mathlib.Decide.{ℕ-discrete}
 use native.Mathlib.Omega.{arith}
-use lib.ListN.{length, getD, replicate, length-replicate}
+use lib.ListN.{length, getD, replicate}
 use lib.Seq.{ext-getD}
 use Rattle.refusal.specs.Numbers.{numberOf}
 use Rattle.refusal.specs.declared.Refusal.{Refusal}
@@ -14,17 +14,17 @@ use Rattle.refusal.proofs.NumberLaws.{number-pos, number-unique}
 use Rattle.grid.specs.Cells.{cell, someEmpty}
 use Rattle.grid.specs.Accepted.{Accepted, gridRefusal}
 use Rattle.grid.proofs.CellLaws.{cell-cleared, found}
-use Rattle.grid.proofs.AcceptedLaws.{accepted-grid, never-refused-grid}
+use Rattle.grid.proofs.AcceptedLaws.{accepted-grid}
 use Rattle.theory.specs.Allen.{allen}
 use Rattle.theory.specs.Closing.{Closing}
-use Rattle.theory.specs.Sweeps.{Distinct, Cuts, DeadEnd, value}
+use Rattle.theory.specs.Sweeps.{DeadEnd}
 use Rattle.theory.proofs.ClosingLaws.{closing-same, closing-unique}
 use Rattle.theory.proofs.KeepLaws.{Good}
 use Rattle.theory.proofs.PlainLaws.{dead-closing, cuts-good, still-closed}
 use Rattle.theory.proofs.QuickRight.{empty-right, start-good}
 use Rattle.theory.proofs.GivenLaws.{fine, full, hole}
 use Rattle.theory.proofs.AllenLaws.{lawful, eq-lawful}
-use Rattle.plain.specs.Answers.{refusalOf, EmptyCell, PlainCloses}
+use Rattle.plain.specs.Answers.{EmptyCell, PlainCloses}
 use Rattle.plain.specs.Routes.{Sweeps}
 use Rattle.plain.specs.declared.PlainAnswer.{PlainAnswer}
 use Rattle.plain.specs.declared.PlainAnswer.the-variants.{Closed, Contradiction, Refused}

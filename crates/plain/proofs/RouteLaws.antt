@@ -1,9 +1,9 @@
 -- How the parts of a sweep fit together. Assumes nothing.
-use mathlib.Core.Path.{_≡_, refl, ap, sym, _∙_, subst}
+use mathlib.Core.Path.{_≡_, ap, sym, _∙_, subst}
 use mathlib.Core.Logic.{_⊎_, inl, inr}
 use mathlib.Core.List.{List}
 use mathlib.Core.Bool.{Bool, true, false}
-use Prim.Native.Nat.{ℕ, _+_, _*_, _≤_, _<_}
+use Prim.Native.Nat.{ℕ, _+_, _<_}
 use native.Mathlib.Decide.{decLt}
 use native.Mathlib.Omega.{arith}
 use lib.Bits.{bitAnd, and-comm, and-self}
@@ -15,7 +15,7 @@ use Rattle.theory.specs.Allen.{allen}
 use Rattle.theory.specs.Sweeps.{Distinct, Progress, DeadEnd, Shrinks, none, value, orb}
 use Rattle.theory.proofs.MeetLaws.{and-assoc}
 use Rattle.theory.proofs.AllenLaws.{sized}
-use Rattle.theory.proofs.PlainLaws.{dead-then, progress-none, progress-one, progress-then}
+use Rattle.theory.proofs.PlainLaws.{progress-none, progress-one, progress-then}
 use Rattle.plain.specs.Routes.{OneRoute, CellTo, RowTo, AllTo, Pass}
 use Rattle.plain.specs.declared.Swept.{Swept}
 use Rattle.plain.specs.declared.Swept.the-variants.{Dead, Moved}

@@ -5,7 +5,7 @@ use mathlib.Core.Bool.{true, false}
 use mathlib.Core.List.{List}
 use Prim.Native.Nat.{ℕ, _*_, _<_}
 use lib.Count.{ones}
-use lib.ListN.{length, replicate}
+use lib.ListN.{replicate}
 use Rattle.grid.specs.Cells.{cell, someEmpty}
 use Rattle.theory.specs.Allen.{allen}
 use Rattle.theory.specs.Sweeps.{Distinct, Cuts, DeadEnd, Progress, value}

@@ -1,5 +1,5 @@
 -- The rule of quick closing on an accepted grid: what it leaves is the largest closed grid inside, and its takes are bounded. Assumes nothing.
-use mathlib.Core.Path.{_≡_, refl, ap, sym, _∙_, subst}
+use mathlib.Core.Path.{_≡_, refl, sym, _∙_, subst}
 use mathlib.Core.Bool.{Bool, true, false}
 use mathlib.Core.List.{List}
 use Prim.Native.Nat.{ℕ, zero, suc, zero-le, _+_, _*_, _≤_}

@@ -2,7 +2,7 @@
 use mathlib.Core.Path.{_≡_, refl, ap, sym, _∙_, subst}
 use mathlib.Core.Bool.{Bool, true, false}
 use mathlib.Core.List.{List}
-use Prim.Native.Nat.{ℕ, _*_, _≤_, _<_}
+use Prim.Native.Nat.{ℕ, _*_, _≤_}
 use native.Mathlib.Decide.{ℕ-discrete}
 use native.Mathlib.Omega.{arith}
 use borrow.Author.Tests.{eq-eqb, ne-eqb}
@@ -11,17 +11,16 @@ use lib.ListN.{replicate}
 use Rattle.refusal.specs.Numbers.{numberOf}
 use Rattle.refusal.specs.declared.Refusal.{Refusal}
 use Rattle.refusal.proofs.NumberLaws.{number-pos, number-unique}
-use Rattle.grid.specs.Cells.{cell, someEmpty}
+use Rattle.grid.specs.Cells.{someEmpty}
 use Rattle.grid.specs.Accepted.{Accepted, gridRefusal}
 use Rattle.grid.proofs.AcceptedLaws.{accepted-grid}
 use Rattle.theory.proofs.TakeLaws.{Bounded}
 use Rattle.theory.specs.Allen.{allen}
-use Rattle.theory.specs.Closing.{Closing}
 use Rattle.theory.specs.Line.{allPairs}
 use Rattle.theory.specs.Quick.{Ended, contradiction, closed, paused, run}
 use Rattle.takes.specs.Steps.{ended}
 use Rattle.takes.specs.declared.End.{End}
-use Rattle.quick.specs.Answers.{Said, saidPaused, saidOf, saidBy, cellsBy, orRefused, orKept, quickRule, Ends, QuickCloses}
+use Rattle.quick.specs.Answers.{saidPaused, saidOf, saidBy, cellsBy, quickRule, Ends, QuickCloses}
 use Rattle.quick.specs.Steps.{Shows}
 use Rattle.quick.specs.declared.QuickAnswer.{QuickAnswer}
 use Rattle.quick.specs.declared.QuickAnswer.the-variants.{Closed, Contradiction, Paused, Refused}

@@ -1,18 +1,17 @@
 -- Exchanging the two events: of a relation, and of a set (its converse). Assumes nothing.
 use mathlib.Core.Path.{_≡_, refl, sym, ap, ap₂, _∙_, subst}
-use mathlib.Core.Logic.{_↔_}
 use mathlib.Core.Bool.{Bool, _&&_}
 use Prim.Native.Nat.{ℕ, _^_, _<_}
 use native.Mathlib.Omega.{arith}
-use lib.Dec.{T, eqb, ltb, eqb→eq, eqb-refl, ltb→lt, lit<}
+use lib.Dec.{T, eqb, ltb, eqb→eq, eqb-refl, ltb→lt}
 use lib.Bits.{bitAnd, bitOr, and-le-l}
 use Rattle.relation.specs.Comparing.{relOf}
-use Rattle.relation.specs.Meaning.{Event, holds, exchanged}
+use Rattle.relation.specs.Meaning.{Event, exchanged}
 use Rattle.relation.specs.Sets.{member, Inside}
 use Rattle.relation.specs.Composition.{converse}
 use Rattle.relation.proofs.Tested.{T-of, of-T, and-left, and-right, all, all-at, both-ways}
 use Rattle.relation.proofs.Relations.{relOf-lt, exactly-one, exchanged-holds}
-use Rattle.relation.proofs.SetLaws.{member-and, member-none, member-mark, mark-lt, same}
+use Rattle.relation.proofs.SetLaws.{member-and, member-mark, same}
 use Rattle.relation.proofs.UnionLaws.{union-lt, union-from, union-to, union-none, union-or}
 
 -- ---- of a relation

@@ -1,5 +1,5 @@
 -- A list that is filled from its beginning, one place after the other. Assumes nothing.
-use mathlib.Core.Path.{_≡_, sym, ap, _∙_, subst}
+use mathlib.Core.Path.{_≡_, sym, ap, _∙_}
 use mathlib.Core.List.{List}
 use Prim.Native.Nat.{ℕ, _+_, _<_}
 use native.Mathlib.Decide.{ℕ-discrete}

@@ -1,10 +1,9 @@
 -- The laws of composition of sets, from its meaning. Assumes nothing.
-use mathlib.Core.Path.{_≡_, refl, sym, ap, ap₂, _∙_, subst, subst₃}
+use mathlib.Core.Path.{_≡_, refl, sym, ap, _∙_, subst}
 use mathlib.Core.Logic.{_↔_}
-use mathlib.Core.Bool.{Bool, true, false, _&&_, _||_}
-use Prim.Native.Nat.{ℕ, _^_, _<_}
+use Prim.Native.Nat.{ℕ, _<_}
 use native.Mathlib.Omega.{arith}
-use lib.Dec.{T, eqb, eqb→eq, eqb-refl, ltb, ltb→lt, lit<}
+use lib.Dec.{T, eqb, eqb→eq, ltb, ltb→lt, lit<}
 use mathlib.Core.List.{List, []}
 use lib.ListN.{getD}
 use lib.Bits.{bitOr, or-lt}
@@ -12,8 +11,8 @@ use Rattle.relation.specs.Comparing.{relOf}
 use Rattle.relation.specs.Meaning.{Event, holds, exchanged}
 use Rattle.relation.specs.Sets.{member, Inside}
 use Rattle.relation.specs.Composition.{Composed, table, entry, converse, composeRow, compose}
-use Rattle.relation.proofs.Tested.{T-of, of-T, all, all-at}
-use Rattle.relation.proofs.Relations.{relOf-lt, exactly-one, exchanged-holds, holds-found}
+use Rattle.relation.proofs.Tested.{T-of, all, all-at}
+use Rattle.relation.proofs.Relations.{relOf-lt, exactly-one, exchanged-holds}
 use Rattle.relation.proofs.TableLaws.{agrees, stands}
 use Rattle.relation.proofs.SetLaws.{member-none, member-mark, same-inside}
 use Rattle.relation.proofs.LowestLaws.{some-member}

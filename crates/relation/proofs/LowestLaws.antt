@@ -1,5 +1,5 @@
 -- The lowest member of a set, and the set without it. Assumes nothing.
-use mathlib.Core.Path.{_≡_, refl, sym, ap, ap₂, _∙_, subst}
+use mathlib.Core.Path.{_≡_, refl, sym, ap, ap₂, _∙_}
 use mathlib.Core.Bool.{Bool, true, false, not, _&&_}
 use Prim.Native.Nat.{ℕ, zero, suc, _+_, _-_, _*_, _/_, _%_, _^_, _<_, _≤_, min, suc-le-suc}
 use native.Mathlib.Nat.{pow-suc, not-suc-le-zero, zero-lt-suc, le-of-suc-le-suc, lt-of-not-le}

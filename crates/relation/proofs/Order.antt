@@ -1,16 +1,12 @@
 -- Orders of whole numbers: comparing two. Assumes nothing.
-use mathlib.Core.Path.{_≡_, refl, sym, ap, ap₂, _∙_, subst}
-use mathlib.Core.Bool.{Bool, true, false, not}
-use mathlib.Core.List.{List, [], _∷_}
-use mathlib.Core.Logic.{_⊎_, inl, inr}
-use Prim.Native.Nat.{ℕ, zero, suc, _+_, _≤_, _<_}
-use native.Mathlib.Nat.{le-antisymm, le-refl, lt-irrefl, lt-trans, not-suc-le-zero}
-use native.Mathlib.Omega.{arith}
-use lib.Dec.{T, ltb, ltb→lt, lt→ltb, nltb→le, lit<}
-use lib.ListN.{length}
+use mathlib.Core.Path.{_≡_, refl, sym, ap, ap₂, subst}
+use mathlib.Core.Bool.{Bool, true, false}
+use Prim.Native.Nat.{_<_}
+use native.Mathlib.Nat.{le-antisymm, lt-irrefl, lt-trans}
+use lib.Dec.{T, ltb, ltb→lt, lt→ltb}
 use lib.IntN.{ℤ, pos, negsuc}
-use lib.Signed.{ltZ, leZ, _<ℤ_, _≤ℤ_, <ℤ-irrefl, <ℤ-≤ℤ-trans, ltZ-yes, ltZ-no}
-use borrow.Author.Tests.{lt-ltb, le-ltb, ltb-true, ltb-false}
+use lib.Signed.{ltZ, _<ℤ_}
+use borrow.Author.Tests.{ltb-false}
 use Rattle.relation.specs.Comparing.{Order, less, same, more, order}
 use Rattle.relation.proofs.Tested.{T-of, of-T, false-of}
 use Rattle.relation.proofs.Rank.{Weak}

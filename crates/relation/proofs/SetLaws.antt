@@ -1,11 +1,11 @@
 -- Laws of sets of relations. Assumes nothing.
-use mathlib.Core.Path.{_≡_, refl, sym, ap, ap₂, _∙_, subst}
+use mathlib.Core.Path.{_≡_, refl, sym, ap, _∙_, subst}
 use mathlib.Core.Bool.{Bool, true, false, _&&_, _||_}
-use Prim.Native.Nat.{ℕ, zero, suc, _+_, _-_, _*_, _/_, _%_, _^_, _<_, _≤_, min, max}
-use native.Mathlib.Nat.{add-comm, zero-div, pow-suc, mod-lt, not-suc-le-zero, le-of-suc-le-suc, zero-lt-suc}
-use native.Mathlib.Numerals.{add-one, one-add}
+use Prim.Native.Nat.{ℕ, zero, suc, _+_, _-_, _*_, _/_, _%_, _^_, _<_, min, max}
+use native.Mathlib.Nat.{add-comm, zero-div, pow-suc, not-suc-le-zero, le-of-suc-le-suc, zero-lt-suc}
+use native.Mathlib.Numerals.{one-add}
 use native.Mathlib.Omega.{arith}
-use lib.Dec.{T, eqb, eqb→eq, lit<}
+use lib.Dec.{T, eqb, lit<}
 use lib.Bits.{bitAnd, bitOr, or-shr, and-shr, or-step, and-step, and-le-l}
 use lib.Pow.{shr-shr, pow-lt, field, mod-mod-pow}
 use Rattle.relation.specs.Sets.{member, digit, setBelow, setOf, Inside}

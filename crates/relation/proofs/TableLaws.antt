@@ -1,20 +1,19 @@
 -- The table of 169 sets agrees with the meaning of composition: one computed test over the table. Assumes nothing.
-use mathlib.Core.Path.{_≡_, refl, sym, ap, ap₂, _∙_, subst, subst₃}
+use mathlib.Core.Path.{_≡_, refl, sym, ap₂, _∙_, subst, subst₃}
 use mathlib.Core.Logic.{_↔_}
 use mathlib.Core.Bool.{Bool, true, false, _&&_}
 use mathlib.Core.List.{List, [], _∷_}
-use Prim.Native.Nat.{ℕ, zero, suc, _+_, _*_, _≤_, _<_}
-use native.Mathlib.Omega.{arith}
-use lib.Dec.{T, ltb, eqb, eqb→eq, ltb→lt, lt→ltb, lit<}
+use Prim.Native.Nat.{ℕ, _<_}
+use lib.Dec.{T, ltb, eqb, eqb→eq, ltb→lt, lt→ltb}
 use lib.IntN.{ℤ, pos}
-use lib.Signed.{ltZ, _<ℤ_}
-use Rattle.relation.specs.Comparing.{Order, less, same, more, order, relFrom, relBy, relOf}
+use lib.Signed.{ltZ}
+use Rattle.relation.specs.Comparing.{order, relBy, relOf}
 use Rattle.relation.specs.Sets.{member, some}
-use Rattle.relation.specs.Meaning.{Event, holds}
+use Rattle.relation.specs.Meaning.{Event}
 use Rattle.relation.specs.Composition.{Composed, entry}
 use Rattle.relation.proofs.Order.{whole}
 use Rattle.relation.proofs.Rank.{rank, rank-lt, rank-keeps, In, here, there}
-use Rattle.relation.proofs.Relations.{exactly-one, holds-found}
+use Rattle.relation.proofs.Relations.{exactly-one}
 use Rattle.relation.proofs.Tested.{and-left, and-right, when-at, also-at, all, all-at, allPairs, allPairs-at, anyPair, anyPair-at}
 
 -- ---- the test

@@ -1,15 +1,15 @@
 -- The union of sets f r over the members r of a set: what its members are, and how a loop over the members gathers it. Assumes nothing.
 use mathlib.Core.Path.{_≡_, refl, sym, ap, ap₂, _∙_, subst}
 use mathlib.Core.Bool.{Bool, true, false, not, _&&_, _||_}
-use Prim.Native.Nat.{ℕ, _+_, _-_, _/_, _%_, _^_, _<_, _≤_}
+use Prim.Native.Nat.{ℕ, _-_, _%_, _^_, _<_}
 use native.Mathlib.Omega.{arith}
 use lib.Dec.{T, eqb, eqb→eq, eqb-refl, lit<}
 use lib.Bits.{bitOr, or-lt, or-zero-r}
 use lib.Pow.{pow-pos}
 use lib.Count.{trailingZeros}
-use Rattle.relation.specs.Sets.{member, setOf, some, unionOver, Inside}
+use Rattle.relation.specs.Sets.{member, some, unionOver, Inside}
 use Rattle.relation.proofs.Tested.{T-of, of-T, and-left, and-right, and-both, or-cases, or-left, or-right, or-assoc, some-at, some-in, both-ways}
-use Rattle.relation.proofs.SetLaws.{member-or, member-low-marks, member-none, member-mark, mark-lt, same, setOf-lt, member-setOf, same-inside, inside-or-left, inside-or-right, or-inside}
+use Rattle.relation.proofs.SetLaws.{member-or, member-low-marks, member-none, member-mark, same, setOf-lt, member-setOf, same-inside, inside-or-left, inside-or-right, or-inside}
 use Rattle.relation.proofs.LowestLaws.{lowest-thirteen, mark-le, member-without}
 
 -- ---- the members of a union

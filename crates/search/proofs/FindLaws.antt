@@ -1,8 +1,8 @@
 -- From the code's answers to the public statement. Assumes nothing.
-use mathlib.Core.Path.{_≡_, refl, sym, ap, subst, _∙_}
-use mathlib.Core.Bool.{Bool, true, false}
-use mathlib.Core.List.{List, []}
-use Prim.Native.Nat.{ℕ, _*_, _≤_, _<_}
+use mathlib.Core.Path.{_≡_, refl, sym, ap, _∙_}
+use mathlib.Core.Bool.{true, false}
+use mathlib.Core.List.{List}
+use Prim.Native.Nat.{ℕ, _*_}
 use native.Mathlib.Omega.{arith}
 use borrow.Author.Tests.{eq-eqb, ne-eqb}
 use lib.Dec.{eqb}
@@ -12,18 +12,17 @@ use Rattle.refusal.specs.Numbers.{numberOf}
 use Rattle.refusal.specs.declared.Refusal.{Refusal}
 use Rattle.refusal.proofs.NumberLaws.{number-pos, number-unique}
 use Rattle.grid.specs.Cells.{someEmpty}
-use Rattle.grid.specs.Accepted.{Accepted, sizeRefusal, cellRefusal}
+use Rattle.grid.specs.Accepted.{Accepted, cellRefusal}
 use Rattle.grid.proofs.AcceptedLaws.{accepted, first-none, size-fine}
 use Rattle.theory.specs.Allen.{allen}
 use Rattle.theory.specs.Line.{allPairs}
 use Rattle.theory.specs.Quick as quick
-use Rattle.theory.specs.Search.{Tried, emptied, closed, Found, none, pairsFrom}
-use Rattle.quick.specs.Answers.{quickRule}
+use Rattle.theory.specs.Search.{Tried, Found, none}
 use Rattle.quick.proofs.RuleLaws.{rule-empty, rule-run}
 use Rattle.placing.specs.Checking.{lengthRefusal}
 use Rattle.placing.proofs.CheckLaws.{lengths}
-use Rattle.search.specs.Rule.{enough, triedBy, searchAt, searchOf, fromClosed}
-use Rattle.search.specs.Answers.{Said, saidOf, searchRefusal, saidBy, roomBy, orRefused, orKept, Meant, Looks}
+use Rattle.search.specs.Rule.{enough, triedBy, searchOf, fromClosed}
+use Rattle.search.specs.Answers.{saidOf, searchRefusal, saidBy, roomBy, Looks}
 use Rattle.search.specs.Steps.{saidWith, Shows, Answers}
 use Rattle.search.specs.declared.Looked.{Looked}
 use Rattle.search.specs.declared.PlaceAnswer.{PlaceAnswer}

@@ -1,24 +1,23 @@
 -- What the code sees at one cell, as steps of the rule. Assumes nothing.
 use mathlib.Core.Path.{_≡_, refl, sym, ap, subst, _∙_}
-use mathlib.Core.Bool.{Bool, true, false}
+use mathlib.Core.Bool.{Bool, true}
 use mathlib.Core.Logic.{⊎-elim}
 use mathlib.Core.List.{List, [], _∷_}
 use Prim.Native.Nat.{ℕ, _+_, _-_, _*_, _≤_, _<_}
 use native.Mathlib.Omega.{arith}
 use lib.Arith.{digits-lt}
 use lib.IntN.{ℤ}
-use lib.ListN.{length, getD, take}
+use lib.ListN.{length, take}
 use lib.Seq.{getD-take}
 use types.Run.{OneOf}
 use denote.Enum.Declared.{tagOf}
 use Rattle.relation.specs.Sets.{member}
 use Rattle.grid.specs.Cells.{cell}
-use Rattle.theory.specs.Search.{Pair, Tried, emptied, closed, Found, placed, none, gaveUp, orNext, pastLast, searchFrom, pairsFrom}
+use Rattle.theory.specs.Search.{Pair, emptied, closed, Found, placed, none, gaveUp, orNext, searchFrom, pairsFrom}
 use Rattle.takes.specs.Steps.{ended}
 use Rattle.takes.specs.declared.End.{End}
 use Rattle.takes.specs.declared.End.the-variants.{Contradiction, Closed, Paused}
 use Rattle.takes.proofs.End.{the-type as end-type}
-use Rattle.placing.specs.Settling.{settles}
 use Rattle.search.specs.Rule.{thereAt, triedBy, tryAt, searchAt}
 use Rattle.search.specs.Answers.{saidBy, roomBy}
 use Rattle.search.specs.Steps.{saidWith, Shows, Settles, AtCell}

@@ -6,20 +6,19 @@ use mathlib.Core.List.{List, [], _∷_, _++_}
 use Prim.Native.Nat.{ℕ, zero, suc, _+_, _-_, _*_, _/_, _^_, _≤_, _<_}
 use native.Mathlib.Nat.{mul-le-mul, eq-or-lt-of-le, le-mul-of-pos-right, zero-lt-suc}
 use native.Mathlib.Omega.{arith}
-use borrow.Author.Tests.{eq-eqb, ne-eqb, eqb-true}
+use borrow.Author.Tests.{eq-eqb, ne-eqb}
 use lib.Dec.{T, eqb, eqb→eq}
 use lib.IntN.{ℤ}
 use lib.ListN.{length}
-use Rattle.relation.specs.Sets.{member}
 use Rattle.relation.specs.Composition.{converse}
 use Rattle.relation.proofs.Tested.{all, all-at}
-use Rattle.grid.specs.Cells.{cell, putBoth}
+use Rattle.grid.specs.Cells.{putBoth}
 use Rattle.theory.specs.Allen.{allen}
 use Rattle.theory.specs.Line.{pairOf, joins, occurs}
 use Rattle.theory.specs.Quick.{Ended, run}
-use Rattle.theory.specs.Search.{Pair, Tried, emptied, closed, Found, placed, none, gaveUp, orNext, turnOf, relationsFrom, searchFrom, pastLast, row, rows, pairsFrom}
+use Rattle.theory.specs.Search.{Pair, Tried, emptied, closed, Found, none, gaveUp, orNext, turnOf, relationsFrom, row, rows, pairsFrom}
 use Rattle.placing.specs.Settling.{settles, Settled}
-use Rattle.search.specs.Rule.{enough, thereAt, triedBy, tryAt, searchAt}
+use Rattle.search.specs.Rule.{enough, triedBy, tryAt}
 use Rattle.search.specs.Steps.{Settles, AtCell, Next}
 use Rattle.search.specs.declared.Outcome.the-variants.{Placed, None}
 

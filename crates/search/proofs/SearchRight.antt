@@ -4,14 +4,13 @@ use mathlib.Core.Bool.{Bool, true, false}
 use mathlib.Core.Logic.{_⊎_, inl, inr, ⊎-elim}
 use mathlib.Core.List.{List, [], _∷_, _++_}
 use Prim.Native.Nat.{ℕ, zero, suc, _+_, _-_, _*_, _≤_, _<_}
-use native.Mathlib.Decide.{ℕ-discrete, decLt}
+use native.Mathlib.Decide.{ℕ-discrete}
 use native.Mathlib.Omega.{arith}
 use lib.Dec.{T, eqb}
 use lib.IntN.{ℤ}
 use lib.ListN.{length, getD}
-use lib.Signed.{_<ℤ_}
 use Rattle.relation.specs.Comparing.{relOf}
-use Rattle.relation.specs.Meaning.{Event, holds}
+use Rattle.relation.specs.Meaning.{Event}
 use Rattle.relation.specs.Sets.{member}
 use Rattle.relation.proofs.Tested.{some-no}
 use Rattle.relation.proofs.Rank.{In as Among, here, there}
@@ -22,7 +21,7 @@ use Rattle.theory.specs.Allen.{allen}
 use Rattle.theory.specs.Closing.{Closing}
 use Rattle.theory.specs.Line.{allPairs, rowsTo}
 use Rattle.theory.specs.Quick as quick
-use Rattle.theory.specs.Search.{Pair, Tried, emptied, closed, Found, placed, none, gaveUp, row, rows, pairsFrom, searchFrom}
+use Rattle.theory.specs.Search.{Pair, closed, Found, placed, none, gaveUp, row, rows, pairsFrom, searchFrom}
 use Rattle.theory.proofs.AllenLaws.{lawful}
 use Rattle.theory.proofs.GivenLaws.{fine, full}
 use Rattle.theory.proofs.QuickRight.{start}
@@ -32,14 +31,14 @@ use Rattle.theory.proofs.PlacedLaws.{Uses, uses-more, closing-uses, empty-unuse
 use Rattle.theory.proofs.SearchLaws as search
 use Rattle.quick.specs.Answers.{quickRule}
 use Rattle.quick.proofs.RuleLaws.{rule-empty, rule-run, rule-right, rule-bound}
-use Rattle.placing.specs.Placing.{at, Meets, Places, MeetsAt, NoGaps}
+use Rattle.placing.specs.Placing.{Meets, Places}
 use Rattle.placing.specs.Settling.{settles, placingOf}
 use Rattle.placing.proofs.SettleLaws.{settled-meets, placing-gapless}
 use Rattle.search.specs.Rule.{enough, thereAt, triedBy, tryAt, searchAt, searchOf, fromClosed}
-use Rattle.search.specs.Answers.{Said, saidOf, saidBy, roomBy, NoLater, FirstPlacing, Meant}
+use Rattle.search.specs.Answers.{saidOf, saidBy, roomBy, NoLater, FirstPlacing, Meant}
 use Rattle.search.specs.declared.PlaceAnswer.{PlaceAnswer}
 use Rattle.search.specs.declared.PlaceAnswer.the-variants.{Placed, None, GaveUp, Refused}
-use Rattle.search.proofs.TryRight.{meets-uses, uses-meets, Upper, Single, Ready, good-fine, searchable}
+use Rattle.search.proofs.TryRight.{meets-uses, uses-meets, Upper, Ready, good-fine, searchable}
 
 -- ---- the cells in order are all cells above the diagonal
 

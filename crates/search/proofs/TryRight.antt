@@ -1,6 +1,6 @@
 -- A try of the search keeps the laws that the theory of searching asks of a closing. Assumes nothing.
 use mathlib.Core.Path.{_≡_, refl, sym, ap, subst, _∙_}
-use mathlib.Core.Bool.{Bool, true, false}
+use mathlib.Core.Bool.{true}
 use mathlib.Core.Logic.{_⊎_, inl, inr, ⊎-elim}
 use mathlib.Core.List.{List, [], _∷_}
 use Prim.Native.Nat.{ℕ, _^_, _≤_, _<_}
@@ -12,12 +12,12 @@ use lib.Dec.{T, lit<}
 use lib.ListN.{length}
 use lib.Pow.{pow-pos}
 use Rattle.relation.specs.Comparing.{relOf}
-use Rattle.relation.specs.Meaning.{Event, exchanged, holds}
+use Rattle.relation.specs.Meaning.{Event, exchanged}
 use Rattle.relation.specs.Sets.{member}
 use Rattle.relation.specs.Composition.{converse}
 use Rattle.relation.proofs.Tested.{T-of, of-T}
 use Rattle.relation.proofs.Rank.{In as Among, here, there}
-use Rattle.relation.proofs.SetLaws.{member-mark, mark-lt, and-inside}
+use Rattle.relation.proofs.SetLaws.{mark-lt}
 use Rattle.relation.proofs.Relations.{relOf-lt, exactly-one, holds-found}
 use Rattle.relation.proofs.ExchangeLaws.{exchanged-lt, relOf-back, converse-twice}
 use Rattle.grid.specs.Cells.{cell, putBoth}
@@ -26,17 +26,17 @@ use Rattle.theory.specs.Allen.{allen}
 use Rattle.theory.specs.Closing.{Closed, Closing, Within}
 use Rattle.theory.specs.Line.{pairOf}
 use Rattle.theory.specs.Quick as quick
-use Rattle.theory.specs.Search.{Pair, Tried, emptied, closed}
+use Rattle.theory.specs.Search.{Pair, emptied, closed}
 use Rattle.theory.proofs.AllenLaws.{lawful, eq-lawful, sized}
 use Rattle.theory.proofs.ClosingLaws.{sub-trans}
 use Rattle.theory.proofs.KeepLaws.{Good}
 use Rattle.theory.proofs.SettledLaws.{Right, LeavesGood, run-good}
 use Rattle.theory.proofs.QuickRight.{Fine, Full}
-use Rattle.theory.proofs.TryLaws.{cut-inside, cut-fine, resting, try-right, try-ends}
+use Rattle.theory.proofs.TryLaws.{cut-inside, resting, try-right, try-ends}
 use Rattle.theory.proofs.PlacedLaws.{member-only, mark-inside, inside-mark, only-mark, converse-mark, Uses, uses-more, closing-uses, empty-unused}
 use Rattle.theory.proofs.SearchLaws.{Searchable}
 use Rattle.placing.specs.Placing.{Meets, Scenario}
-use Rattle.placing.specs.Settling.{settles, placingOf}
+use Rattle.placing.specs.Settling.{settles}
 use Rattle.placing.proofs.SettleLaws.{settled-meets, unsettled-none}
 use Rattle.search.specs.Rule.{enough, thereAt, triedBy, tryAt}
 

@@ -1,12 +1,11 @@
 -- The search from one cell on, and where the code stands. Inner functions cite this; the public statement does not. Assumes nothing.
 use mathlib.Core.Path.{_≡_}
-use mathlib.Core.List.{List, [], _∷_}
+use mathlib.Core.List.{List, _∷_}
 use Prim.Native.Nat.{ℕ, _≤_, _<_}
 use lib.IntN.{ℤ}
 use lib.ListN.{length}
-use Rattle.theory.specs.Search.{Pair, Found, placed, none, gaveUp, pastLast, pairsFrom}
-use Rattle.placing.specs.Settling.{settles, placingOf}
-use Rattle.search.specs.Rule.{searchAt}
+use Rattle.theory.specs.Search.{Found, pastLast, pairsFrom}
+use Rattle.placing.specs.Settling.{settles}
 use Rattle.search.specs.Answers.{Said, saidPlaced, saidNone, saidGaveUp, saidOf, saidBy, roomBy}
 use Rattle.search.specs.declared.Outcome.{Outcome}
 use Rattle.search.specs.declared.Outcome.the-variants.{Placed, None, GaveUp}

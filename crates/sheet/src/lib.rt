@@ -1,8 +1,8 @@
 // Sheets: read into a grid, or refused; the names handed back.
 ghost use mathlib.Core.Path.{_≡_};
-ghost use mathlib.Core.List.{[], _++_};
+ghost use mathlib.Core.List.{[]};
 ghost use Prim.Native.Nat.{_+_, _*_, _≤_, _<_};
-ghost use lib.ListN.{length, take, drop};
+ghost use lib.ListN.{length, take};
 ghost use Rattle.sheet.specs.Sheet.{mostEvents, find, contents, sheet};
 ghost use Rattle.sheet.specs.Grid.{startCell, startGrid, cutBy};
 ghost use Rattle.sheet.specs.Answers.{roomCells, Reads, NamePart};

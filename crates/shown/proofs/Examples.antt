@@ -2,7 +2,6 @@
 use mathlib.Core.Path.{_≡_, refl, ap, _∙_}
 use mathlib.Core.List.{List, [], _∷_}
 use Prim.Native.Nat.{ℕ}
-use lib.ListN.{length}
 use Rattle.relation.specs.Sets.{member, setBelow, setOf, some, unionOver}
 use Rattle.relation.specs.Meaning.{exchanged}
 use Rattle.relation.specs.Composition.{converse, table, entry, composeRow, compose}
@@ -15,7 +14,7 @@ use Rattle.text.specs.Names.{isName, sameName}
 use Rattle.words.specs.Words.{words, meaning}
 use Rattle.sheet.specs.Sheet.{Statement, Outcome, accepted, isEntry, isStatement, owners, bodies, contents, sheet}
 use Rattle.sheet.specs.Grid.{upTo, startGrid, cutBy, cutAll, gridOf}
-use Rattle.shown.specs.Examples.{Shown, set, closes, contradicts, closing, closingOf, mill, circle, worked, printed}
+use Rattle.shown.specs.Examples.{set, closes, closing, closingOf, mill, worked, printed}
 
 -- the sheet's three events, and its statements: flood {d} mill, wedding {b,m} flood
 abbrev told : List Statement

@@ -1,10 +1,9 @@
 -- From the code's answer to the step that it shows. Assumes nothing.
-use mathlib.Core.Path.{_≡_, refl, _∙_, sym, ap, subst}
+use mathlib.Core.Path.{_≡_, _∙_, sym, ap, subst}
 use mathlib.Core.List.{List}
-use Prim.Native.Nat.{ℕ, zero, suc, _*_, _≤_, _<_}
+use Prim.Native.Nat.{ℕ, zero, suc, _≤_, _<_}
 use native.Mathlib.Omega.{arith}
 use lib.Bits.{bitAnd}
-use lib.ListN.{length}
 use Rattle.relation.specs.Composition.{compose}
 use Rattle.grid.specs.Cells.{cell}
 use Rattle.theory.specs.Allen.{allen}

@@ -1,6 +1,6 @@
 -- The thirteen relations keep every law that closing uses. Assumes nothing.
-use mathlib.Core.Path.{_≡_, sym, ap, _∙_}
-use Prim.Native.Nat.{ℕ, _≤_, _<_}
+use mathlib.Core.Path.{_≡_, ap, _∙_}
+use Prim.Native.Nat.{ℕ, _<_}
 use native.Mathlib.Omega.{arith}
 use lib.Dec.{lit<}
 use lib.Bits.{bitAnd, and-comm, and-self, and-zero-r, and-le-r}
@@ -9,11 +9,10 @@ use Rattle.relation.specs.Composition.{converse, compose}
 use Rattle.relation.proofs.SetLaws.{and-inside, inside-and}
 use Rattle.relation.proofs.ExchangeLaws.{converse-none, converse-and}
 use Rattle.relation.proofs.Laws.{compose-lt, compose-mono, compose-converse, compose-none-left, compose-none-right, compose-eq-left, compose-eq-right, eq-inside}
-use Rattle.theory.specs.Calculus.{Sub}
 use Rattle.theory.specs.Allen.{allen}
 use Rattle.theory.proofs.Lawful.{Lawful, EqLawful}
 use Rattle.theory.proofs.TakeLaws.{Sized}
-use Rattle.theory.proofs.MeetLaws.{and-assoc, ones-less, ones-most, sub-top}
+use Rattle.theory.proofs.MeetLaws.{and-assoc, ones-less, ones-most}
 
 pub lawful : Lawful allen
 lawful =

@@ -1,5 +1,5 @@
 -- What any run of cuts keeps, and that the largest closed grid inside is the only one. Assumes nothing.
-use mathlib.Core.Path.{_≡_, refl, ap, ap₂, sym, _∙_, subst, subst₃}
+use mathlib.Core.Path.{_≡_, ap, sym, _∙_, subst, subst₃}
 use Prim.Native.Nat.{ℕ, _<_}
 use native.Mathlib.Decide.{ℕ-discrete}
 use Rattle.theory.specs.Calculus.{Calculus, Sub}

@@ -1,18 +1,18 @@
 -- What every cut keeps, on lists: the largest closed grid inside, the mirror, the diagonal, no empty cell. Assumes nothing.
-use mathlib.Core.Path.{_≡_, refl, ap, sym, _∙_}
-use mathlib.Core.List.{List, [], _∷_}
-use Prim.Native.Nat.{ℕ, zero, suc, _+_, _*_, _/_, _%_, _≤_, _<_}
+use mathlib.Core.Path.{_≡_, ap, sym, _∙_}
+use mathlib.Core.List.{List}
+use Prim.Native.Nat.{ℕ, _*_, _≤_, _<_}
 use native.Mathlib.Omega.{arith}
 use native.Mathlib.Decide.{ℕ-discrete}
 use lib.ListN.{length}
 use Rattle.grid.specs.Cells.{cell, putBoth}
 use Rattle.grid.proofs.CellLaws.{putBoth-length, cell-both-here, cell-both-mirror, cell-both-other}
 use Rattle.theory.specs.Calculus.{Calculus, Sub}
-use Rattle.theory.specs.Closing.{Cells, Closed, Within, Closing}
+use Rattle.theory.specs.Closing.{Closing}
 use Rattle.theory.specs.Line.{joins, pairOf}
 use Rattle.theory.specs.Quick.{cutTo, Out, dead, going, cut, shrunk}
-use Rattle.theory.proofs.ClosingLaws.{Mirrored, IsCut, Reached, cut-within, cut-mirrored, cut-cases, mirror-back, reached-cut, reached-empty, reached-closed, sub-trans}
-use Rattle.theory.proofs.Lawful.{Lawful, EqLawful}
+use Rattle.theory.proofs.ClosingLaws.{IsCut, Reached, cut-within, cut-cases, mirror-back, reached-cut, reached-empty, sub-trans}
+use Rattle.theory.proofs.Lawful.{Lawful}
 use Rattle.theory.proofs.QuickLaws.{shrunk-same, shrunk-dead, shrunk-written}
 
 -- a put and its mirror make the cut grid

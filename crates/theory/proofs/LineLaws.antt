@@ -1,15 +1,14 @@
 -- The waiting list: joining loses nobody and brings in one; a pair and its number. Assumes nothing.
 use mathlib.Core.Path.{_≡_, refl, ap, ap₂, sym, _∙_}
 use mathlib.Core.List.{List, [], _∷_, _++_}
-use mathlib.Core.Bool.{Bool, true, false}
+use mathlib.Core.Bool.{Bool}
 use mathlib.Core.Logic.{_⊎_, inl, inr}
-use Prim.Native.Nat.{ℕ, zero, suc, _+_, _*_, _/_, _%_, _≤_, _<_, min, max}
+use Prim.Native.Nat.{ℕ, _+_, _/_, _%_, _≤_, _<_}
 use native.Mathlib.Omega.{arith}
 use native.Mathlib.Decide.{ℕ-discrete}
 use borrow.Author.Tests.{eq-eqb, ne-eqb}
-use lib.Dec.{eqb}
 use lib.ListN.{length, length-append}
-use Rattle.theory.specs.Line.{pairOf, one-if, occurs, pick, joins}
+use Rattle.theory.specs.Line.{pairOf, one-if, occurs, joins}
 
 -- the number of a pair of two of n events
 abbrev pub IsPair : ℕ → ℕ → Type 0

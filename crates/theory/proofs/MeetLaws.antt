@@ -1,9 +1,9 @@
 -- The cut of two sets, and how many members a set has. Assumes nothing.
-use mathlib.Core.Path.{_≡_, refl, ap, ap₂, sym, _∙_}
-use Prim.Native.Nat.{ℕ, zero, suc, _+_, _*_, _/_, _%_, _^_, _≤_, _<_, min}
+use mathlib.Core.Path.{_≡_, refl, ap, sym, _∙_}
+use Prim.Native.Nat.{ℕ, _+_, _/_, _%_, _≤_, _<_, min}
 use native.Mathlib.Omega.{arith}
 use native.Mathlib.Decide.{ℕ-discrete}
-use lib.Bits.{bitAnd, and-step, and-comm, and-self, and-zero-r, and-zero-l, and-shr, and-mod, and-mask}
+use lib.Bits.{bitAnd, and-step, and-zero-r, and-shr, and-mask}
 use lib.Count.{ones, ones-step, ones-le}
 use lib.Arith.{bin-ind}
 

@@ -1,14 +1,12 @@
 -- The scenario of any placing is a closed grid, so closing removes nothing that a placing uses. Assumes nothing.
 use mathlib.Core.Path.{_≡_, sym, ap, _∙_, subst}
-use mathlib.Core.Bool.{Bool}
-use mathlib.Core.List.{List}
-use Prim.Native.Nat.{ℕ, _^_, _<_, _≤_}
+use Prim.Native.Nat.{ℕ, _^_, _<_}
 use native.Mathlib.Omega.{arith}
 use lib.Bits.{bitAnd, and-le-r}
 use lib.Dec.{T, eqb, eqb→eq, eqb-refl}
 use Rattle.relation.specs.Comparing.{relOf}
 use Rattle.relation.specs.Meaning.{Event, exchanged}
-use Rattle.relation.specs.Sets.{member, Inside}
+use Rattle.relation.specs.Sets.{member}
 use Rattle.relation.specs.Composition.{converse, compose}
 use Rattle.relation.proofs.Tested.{T-of, of-T}
 use Rattle.relation.proofs.SetLaws.{member-none, member-mark, mark-lt, and-inside, inside-and, same-inside}

@@ -1,9 +1,9 @@
 -- Plain closing: cuts in any order, and a sweep that changes nothing. Assumes nothing.
-use mathlib.Core.Path.{_≡_, refl, ap, sym, _∙_, subst}
+use mathlib.Core.Path.{_≡_, refl, sym, _∙_, subst}
 use mathlib.Core.Logic.{_⊎_, inl, inr, ⊎-elim}
-use mathlib.Core.List.{List, [], _∷_}
+use mathlib.Core.List.{List}
 use mathlib.Core.Bool.{Bool, true, false}
-use Prim.Native.Nat.{ℕ, zero, suc, _+_, _*_, _/_, _%_, _≤_, _<_}
+use Prim.Native.Nat.{ℕ, _+_, _*_, _/_, _%_, _≤_, _<_}
 use native.Mathlib.Omega.{arith}
 use native.Mathlib.Nat.{le-refl}
 use native.Mathlib.Decide.{ℕ-discrete, decLt}
@@ -13,9 +13,8 @@ use Rattle.grid.proofs.CellLaws.{putBoth-length}
 use Rattle.theory.specs.Calculus.{Calculus, Sub}
 use Rattle.theory.specs.Closing.{Closed, Closing}
 use Rattle.theory.specs.Line.{pairOf, allPairs}
-use Rattle.theory.specs.Quick.{cutTo}
 use Rattle.theory.specs.Sweeps.{Distinct, value, Shrinks, Cuts, none, more, DeadEnd, weight, orb, Progress}
-use Rattle.theory.proofs.ClosingLaws.{Mirrored, IsCut, reached-closed, mirror-cut}
+use Rattle.theory.proofs.ClosingLaws.{IsCut, reached-closed, mirror-cut}
 use Rattle.theory.proofs.KeepLaws.{Good, put-cut, is-cut, good-shrank, good-dead}
 use Rattle.theory.proofs.Lawful.{Lawful, EqLawful}
 use Rattle.theory.proofs.LineLaws.{IsPair, pair-number, pair-low, pair-same, pair-swap}

@@ -1,14 +1,12 @@
 -- How a cut and a turn go, case by case. Assumes nothing.
-use mathlib.Core.Path.{_≡_, refl, ap, _∙_}
-use mathlib.Core.List.{List, [], _∷_}
-use mathlib.Core.Bool.{Bool, true, false}
-use Prim.Native.Nat.{ℕ, zero, suc, _+_, _/_, _%_}
+use mathlib.Core.Path.{_≡_}
+use mathlib.Core.List.{List}
+use Prim.Native.Nat.{ℕ}
 use borrow.Author.Tests.{eq-eqb, ne-eqb}
-use lib.Dec.{eqb}
-use Rattle.grid.specs.Cells.{cell, put, putBoth}
+use Rattle.grid.specs.Cells.{putBoth}
 use Rattle.theory.specs.Calculus.{Calculus}
 use Rattle.theory.specs.Line.{joins, pairOf}
-use Rattle.theory.specs.Quick.{Out, dead, going, andThen, shrunk, cut, cutBack, turn}
+use Rattle.theory.specs.Quick.{dead, going, andThen, shrunk, cut, cutBack, turn}
 
 module _ (A : Calculus) (n a b old v : ℕ) (g q : List ℕ) where
   pub shrunk-same : v ≡ old → shrunk A n a b old v g q ≡ going g q

@@ -1,15 +1,15 @@
 -- What quick closing comes to on an accepted grid, whatever the limit. Assumes nothing.
-use mathlib.Core.Path.{_≡_, refl, ap, sym, _∙_}
-use mathlib.Core.List.{List, []}
-use Prim.Native.Nat.{ℕ, zero, suc, _+_, _*_, _≤_, _<_}
+use mathlib.Core.Path.{_≡_}
+use mathlib.Core.List.{List}
+use Prim.Native.Nat.{ℕ, _+_, _*_, _≤_, _<_}
 use native.Mathlib.Omega.{arith}
 use native.Mathlib.Nat.{mul-le-mul-right}
 use lib.ListN.{length}
-use Rattle.grid.specs.Cells.{cell, putBoth}
+use Rattle.grid.specs.Cells.{cell}
 use Rattle.theory.specs.Calculus.{Calculus, Sub}
 use Rattle.theory.specs.Closing.{Closing}
 use Rattle.theory.specs.Line.{allPairs}
-use Rattle.theory.specs.Quick.{run, Ended, contradiction, closed, paused}
+use Rattle.theory.specs.Quick.{run}
 use Rattle.theory.proofs.ClosingLaws.{reached-start, reached-empty}
 use Rattle.theory.proofs.KeepLaws.{Good}
 use Rattle.theory.proofs.Lawful.{Lawful, EqLawful}

@@ -1,18 +1,17 @@
 -- When nothing waits the grid is closed: what each cut, turn, take and run keeps. Assumes nothing.
-use mathlib.Core.Path.{_≡_, refl, ap, sym, _∙_}
+use mathlib.Core.Path.{_≡_, sym, _∙_}
 use mathlib.Core.Logic.{_⊎_, inl, inr, ⊎-elim}
 use mathlib.Core.List.{List, [], _∷_}
-use Prim.Native.Nat.{ℕ, zero, suc, _+_, _*_, _/_, _%_, _≤_, _<_}
+use Prim.Native.Nat.{ℕ, zero, suc, _+_, _/_, _%_, _≤_, _<_}
 use native.Mathlib.Omega.{arith}
-use native.Mathlib.Decide.{ℕ-discrete, decLt}
-use lib.ListN.{length}
+use native.Mathlib.Decide.{ℕ-discrete}
 use Rattle.grid.specs.Cells.{cell, putBoth}
 use Rattle.theory.specs.Calculus.{Calculus, Sub}
-use Rattle.theory.specs.Closing.{Cells, Closed, Within, Closing}
+use Rattle.theory.specs.Closing.{Closed, Closing}
 use Rattle.theory.specs.Line.{joins, pairOf, occurs}
 use Rattle.theory.specs.Quick.{cutTo, Out, dead, going, andThen, cut, turn, turns, take, run, goOn, Ended, contradiction, closed, paused}
 use Rattle.theory.specs.Sweeps.{Distinct}
-use Rattle.theory.proofs.ClosingLaws.{Mirrored, IsCut, Reached, cut-within, mirror-cut, reached-closed, sub-trans, sub-meet-r}
+use Rattle.theory.proofs.ClosingLaws.{IsCut, cut-within, mirror-cut, reached-closed, sub-trans, sub-meet-r}
 use Rattle.theory.proofs.KeepLaws.{Good, Came, same, emptied, shrank, came, is-cut, good-shrank, good-dead}
 use Rattle.theory.proofs.Lawful.{Lawful, EqLawful}
 use Rattle.theory.proofs.LineLaws.{IsPair, joins-keeps, joins-here, joins-only, occurs-cons-same, occurs-cons-other, occurs-nil, pair-comm, pair-same, pair-swap, pair-r, pair-events, pair-ok}

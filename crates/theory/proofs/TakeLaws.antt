@@ -1,23 +1,23 @@
 -- The takes are never more than 13 n (n - 1) / 2: each take uses one waiting pair, and a pair that joins has lost a relation. Assumes nothing.
-use mathlib.Core.Path.{_≡_, refl, ap, sym, _∙_}
-use mathlib.Core.List.{List, [], _∷_, _++_}
-use Prim.Native.Nat.{ℕ, zero, suc, _+_, _-_, _*_, _/_, _%_, _≤_, _<_, min, max}
+use mathlib.Core.Path.{_≡_, ap, sym, _∙_}
+use mathlib.Core.List.{List, [], _∷_}
+use Prim.Native.Nat.{ℕ, zero, suc, _+_, _-_, _*_, _/_, _%_, _≤_, _<_}
 use native.Mathlib.Omega.{arith}
 use native.Mathlib.Nat.{le-refl}
 use native.Mathlib.Decide.{ℕ-discrete, decLt}
-use lib.ListN.{length, length-append}
+use lib.ListN.{length}
 use Rattle.grid.specs.Cells.{cell, putBoth}
 use Rattle.grid.proofs.CellLaws.{putBoth-length}
 use Rattle.theory.specs.Calculus.{Calculus, Sub}
 use Rattle.theory.specs.Line.{joins, pairOf, occurs, allPairs}
 use Rattle.theory.specs.Quick.{cutTo, Out, dead, going, andThen, cut, turn, turns, take, run, goOn, Ended, contradiction, closed, paused}
 use Rattle.theory.specs.Sweeps.{Distinct, sum}
-use Rattle.theory.proofs.ClosingLaws.{IsCut, cut-within, mirror-back}
+use Rattle.theory.proofs.ClosingLaws.{IsCut, cut-within}
 use Rattle.theory.proofs.KeepLaws.{Good, Came, same, emptied, shrank, came, is-cut, good-shrank}
 use Rattle.theory.proofs.Lawful.{Lawful}
-use Rattle.theory.proofs.LineLaws.{IsPair, occurs-cons-same, occurs-cons-other, occurs-nil, pair-comm, pair-same, pair-swap, length-joins, pair-number, pair-low}
+use Rattle.theory.proofs.LineLaws.{IsPair, occurs-cons-same, occurs-cons-other, occurs-nil, pair-same, pair-swap, length-joins, pair-number, pair-low}
 use Rattle.theory.proofs.QuickLaws.{turn-skip-i, turn-skip-j, turn-is}
-use Rattle.theory.proofs.SettledLaws.{Pairs, Resting, Taken, take-ok, After, Stepped, cut-ok}
+use Rattle.theory.proofs.SettledLaws.{Pairs, Resting, Taken, take-ok, After, cut-ok}
 use Rattle.theory.proofs.StartLaws.{length-all, pairs-all, waits-all}
 
 -- how many members a set has

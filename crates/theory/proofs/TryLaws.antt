@@ -1,8 +1,8 @@
 -- Closing again from the one pair that was cut: a closed grid in which a pair was cut, with that pair waiting alone, is settled. Assumes nothing.
-use mathlib.Core.Path.{_≡_, refl, ap, sym, _∙_, subst}
+use mathlib.Core.Path.{_≡_, ap, sym, _∙_, subst}
 use mathlib.Core.Logic.{inl, inr}
 use mathlib.Core.List.{List, [], _∷_}
-use Prim.Native.Nat.{ℕ, zero, suc, _+_, _*_, _≤_, _<_}
+use Prim.Native.Nat.{ℕ, suc, _≤_, _<_}
 use native.Mathlib.Decide.{ℕ-discrete}
 use native.Mathlib.Nat.{mul-le-mul-right}
 use native.Mathlib.Omega.{arith}
@@ -10,17 +10,15 @@ use lib.ListN.{length}
 use Rattle.grid.specs.Cells.{cell, putBoth}
 use Rattle.grid.proofs.CellLaws.{putBoth-length, cell-both-here, cell-both-mirror, cell-both-other}
 use Rattle.theory.specs.Calculus.{Calculus, Sub}
-use Rattle.theory.specs.Closing.{Closed, Closing, Within}
+use Rattle.theory.specs.Closing.{Closed, Within}
 use Rattle.theory.specs.Line.{pairOf, occurs, allPairs}
-use Rattle.theory.specs.Quick.{Ended, contradiction, closed, paused, run}
-use Rattle.theory.specs.Sweeps.{sum}
+use Rattle.theory.specs.Quick.{paused, run}
 use Rattle.theory.proofs.Lawful.{Lawful, EqLawful}
 use Rattle.theory.proofs.ClosingLaws.{Mirrored, reached-start, sub-refl, sub-trans, conv-mono}
 use Rattle.theory.proofs.LineLaws.{IsPair, occurs-cons-same, occurs-cons-other, occurs-nil, pair-same, pair-swap, pair-ok}
-use Rattle.theory.proofs.KeepLaws.{Good}
 use Rattle.theory.proofs.SettledLaws.{Settled, Served, Pairs, Resting, Right, run-ok}
 use Rattle.theory.proofs.StartLaws.{waits-all}
-use Rattle.theory.proofs.TakeLaws.{Sized, Bounded, store, spare, store-most, run-bound}
+use Rattle.theory.proofs.TakeLaws.{Sized, Bounded, store-most, run-bound}
 use Rattle.theory.proofs.QuickRight.{Fine, Full}
 
 occurs-most : (p : ℕ) (q : List ℕ) → occurs p q ≤ length q

@@ -1,5 +1,5 @@
 -- A cell's place lies inside the grid.
-use Rattle.grid.specs.Cells.{cell, put}
+use Rattle.grid.specs.Cells.{cell}
 use Rattle.grid.proofs.CellLaws.{place}
 use borrow.Author.Needs.{needs}
 use native.Mathlib.Omega.{arith}

@@ -1,9 +1,5 @@
 -- The set is put, and then its converse in the mirrored cell.
-use mathlib.Core.Path.{_≡_}
-use lib.ListN.{length}
-use Rattle.relation.specs.Composition.{converse}
-use Rattle.grid.specs.Cells.{cell, put, putBoth}
-use Rattle.grid.proofs.CellLaws.{put-length}
+use Rattle.grid.specs.Cells.{putBoth}
 use borrow.Author.Needs.{needs}
 use Rattle.grid.proofs.put_both.Statement.{statement}
 use Rattle.grid.proofs.put_both.Tie as tie

@@ -1,10 +1,9 @@
 -- No diagonal cell passed so far is anything but {eq}.
 use mathlib.Core.Path.{_≡_, sym, ap, _∙_, subst}
 use mathlib.Core.Bool.{not}
-use Prim.Native.Nat.{ℕ, _-_, _≤_}
-use borrow.Author.Tests.{lt-ltb, le-ltb, eq-eqb, ne-eqb}
-use lib.Dec.{eqb, ltb}
-use lib.ListN.{length, getD}
+use Prim.Native.Nat.{_-_, _≤_}
+use borrow.Author.Tests.{eq-eqb, ne-eqb}
+use lib.Dec.{eqb}
 use Rattle.relation.proofs.Tested.{NoneBelow, none-more, some-yes, some-no}
 use Rattle.grid.specs.Cells.{cell}
 use borrow.Author.Needs.{needs}

@@ -1,6 +1,6 @@
 -- No row passed so far has a cell unlike its mirror.
 use mathlib.Core.Path.{_≡_, sym, _∙_, subst}
-use Prim.Native.Nat.{ℕ, _-_, _≤_}
+use Prim.Native.Nat.{_-_, _≤_}
 use Rattle.grid.specs.Accepted.{rowUnlike}
 use Rattle.relation.proofs.Tested.{NoneBelow, none-more, some-yes, some-no}
 use borrow.Author.Needs.{needs}

@@ -1,6 +1,6 @@
 -- The rows so far, and then one more.
 use mathlib.Core.Path.{_≡_, subst}
-use Prim.Native.Nat.{ℕ, _≤_, _<_, _-_}
+use Prim.Native.Nat.{ℕ, _≤_, _-_}
 use lib.Count.{ones}
 use lib.ListN.{length}
 use Rattle.theory.specs.Allen.{allen}

@@ -1,5 +1,5 @@
 -- Each end of the run is shown by its answer and its cells.
-use mathlib.Core.Path.{_≡_, sym, _∙_, ap}
+use mathlib.Core.Path.{sym, _∙_, ap}
 use Prim.Native.Nat.{ℕ}
 use lib.ListN.{replicate}
 use Rattle.takes.proofs.WaitingLaws.{empty-line}

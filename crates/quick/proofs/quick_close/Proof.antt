@@ -1,5 +1,5 @@
 -- A refusal comes first; an accepted grid is closed by the rule.
-use mathlib.Core.Path.{_≡_, sym, _∙_, ap}
+use mathlib.Core.Path.{sym, _∙_, ap}
 use Rattle.grid.specs.Accepted.{judgedNumber}
 use Rattle.grid.proofs.AcceptedLaws.{accepted-grid}
 use Rattle.quick.proofs.ShowLaws.{refuses, closes}

@@ -1,6 +1,6 @@
 -- The rows before and the pairs of this row so far wait, and the next pair joins the end because it does not wait yet.
 use mathlib.Core.Path.{_≡_, sym, _∙_, ap}
-use Prim.Native.Nat.{_+_, _≤_, _<_, _-_}
+use Prim.Native.Nat.{_≤_, _<_, _-_}
 use Rattle.theory.specs.Line.{joins}
 use Rattle.theory.proofs.StartLaws.{rowsAnd, rows-begin, rows-end, rows-join}
 use Rattle.takes.specs.Steps.{Waits, waitingIn}

@@ -1,10 +1,9 @@
 -- As from the table, where two half rows give each row.
-use mathlib.Core.Path.{_≡_, refl, sym, ap, _∙_}
-use Rattle.relation.specs.Composition.{entry, table, composeRow, compose}
+use Rattle.relation.specs.Composition.{composeRow, compose}
 use Rattle.relation.proofs.UnionLaws.{Gathers, gathers-start, gathers-turn, gathers-end, next-of}
 use Rattle.relation.proofs.Laws.{row-lt}
 use Rattle.relation.proofs.HalfRowLaws.{rows-give}
-use Rattle.relation.proofs.Laws.{entry-lt, row-lt}
+use Rattle.relation.proofs.Laws.{row-lt}
 use borrow.Author.Needs.{needs}
 use Rattle.relation.proofs.compose_by_rows.Statement.{statement}
 use Rattle.relation.proofs.compose_by_rows.Tie as tie

@@ -1,9 +1,9 @@
 -- What is gathered so far, with the composition of the members left, is that of the whole set.
-use mathlib.Core.Path.{_≡_, refl, sym, ap, _∙_}
-use Rattle.relation.specs.Composition.{entry, table, composeRow, compose}
+use mathlib.Core.Path.{refl}
+use Rattle.relation.specs.Composition.{table, composeRow, compose}
 use Rattle.relation.proofs.UnionLaws.{Gathers, gathers-start, gathers-turn, gathers-end, next-of}
-use Rattle.relation.proofs.Laws.{entry-lt, entry-read, row-lt}
-use Rattle.relation.proofs.Laws.{entry-lt, row-lt}
+use Rattle.relation.proofs.Laws.{row-lt}
+use Rattle.relation.proofs.Laws.{row-lt}
 use borrow.Author.Needs.{needs}
 use Rattle.relation.proofs.compose_of.Statement.{statement}
 use Rattle.relation.proofs.compose_of.Tie as tie

@@ -1,9 +1,8 @@
 -- What is gathered so far, with the row of the members left, is the row of the whole set.
-use mathlib.Core.Path.{_≡_, refl, sym, ap, _∙_}
-use Rattle.relation.specs.Composition.{entry, table, composeRow, compose}
+use Rattle.relation.specs.Composition.{entry, composeRow}
 use Rattle.relation.proofs.UnionLaws.{Gathers, gathers-start, gathers-turn, gathers-end, next-of}
-use Rattle.relation.proofs.Laws.{entry-lt, entry-read, row-lt}
-use Rattle.relation.proofs.Laws.{entry-lt, row-lt}
+use Rattle.relation.proofs.Laws.{entry-lt, entry-read}
+use Rattle.relation.proofs.Laws.{entry-lt}
 use borrow.Author.Needs.{needs}
 use Rattle.relation.proofs.compose_row.Statement.{statement}
 use Rattle.relation.proofs.compose_row.Tie as tie

@@ -1,5 +1,4 @@
 -- Refusal 3 exactly where the set is above 8191.
-use mathlib.Core.Path.{ap}
 use borrow.Author.Tests.{lt-ltb, le-ltb}
 use borrow.Author.Needs.{needs}
 use Rattle.relation.proofs.converse.Statement.{statement}

@@ -1,5 +1,5 @@
 -- What is gathered so far, with the converse of the members left, is the converse of the whole set.
-use mathlib.Core.Path.{_≡_, ap, _∙_}
+use mathlib.Core.Path.{ap, _∙_}
 use mathlib.Core.List.{List, [], _∷_}
 use Prim.Native.Nat.{ℕ, _^_}
 use lib.Dec.{eqb, eqb→eq}

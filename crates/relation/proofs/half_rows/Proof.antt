@@ -1,7 +1,7 @@
 -- Each place is filled from the table, one after the other.
 use mathlib.Core.Path.{_≡_, refl, ap, _∙_, subst}
-use Prim.Native.Nat.{ℕ, _-_, _/_, _%_, _≤_, _<_}
-use lib.ListN.{length, set, length-set}
+use Prim.Native.Nat.{_-_, _/_, _%_, _≤_, _<_}
+use lib.ListN.{length, length-set}
 use Rattle.relation.specs.Composition.{table, composeRow}
 use Rattle.relation.specs.HalfRows.{halfSet}
 use Rattle.relation.proofs.FillLaws.{Filled, filled-more}

@@ -1,7 +1,6 @@
 -- `half_set` goes by the same test as its definition.
 use Rattle.relation.proofs.HalfRowLaws.{halfSet-low, halfSet-high}
 use mathlib.Core.Path.{sym}
-use borrow.Author.Tests.{lt-ltb, le-ltb}
 use borrow.Author.Needs.{needs}
 use Rattle.relation.proofs.half_set.Statement.{statement}
 use Rattle.relation.proofs.half_set.Tie as tie

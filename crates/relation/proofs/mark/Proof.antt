@@ -1,5 +1,4 @@
 -- A mark is below 8192, so the shift loses nothing.
-use native.Mathlib.Nat.{mod-eq-of-lt}
 use Rattle.relation.proofs.SetLaws.{mark-lt}
 use native.Mathlib.Omega.{arith}
 use borrow.Author.Needs.{needs}

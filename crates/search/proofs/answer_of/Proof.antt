@@ -1,5 +1,5 @@
 -- One answer for each outcome.
-use mathlib.Core.Path.{_≡_, sym, ap}
+use mathlib.Core.Path.{sym, ap}
 use Rattle.search.specs.Steps.{saidWith}
 use Rattle.search.specs.declared.Outcome.{Outcome}
 use borrow.Author.Needs.{needs}

@@ -2,7 +2,7 @@
 use Rattle.theory.proofs.LineLaws.{pair-ok}
 use Rattle.takes.proofs.WaitingLaws.{empty-line, empty-queue}
 use Rattle.theory.specs.Line.{joins}
-use mathlib.Core.Path.{_≡_, ap, _∙_}
+use mathlib.Core.Path.{ap, _∙_}
 use Rattle.search.proofs.RuleLaws.{try-is}
 use borrow.Author.Needs.{needs}
 use Rattle.search.proofs.attempt.Statement.{statement}

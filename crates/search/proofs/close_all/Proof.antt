@@ -1,8 +1,5 @@
 -- The run starts from the list of all pairs.
-use mathlib.Core.Path.{_≡_, ap, _∙_}
-use mathlib.Core.List.{List}
-use Prim.Native.Nat.{ℕ}
-use Rattle.theory.specs.Allen.{allen}
+use mathlib.Core.Path.{ap, _∙_}
 use Rattle.theory.specs.Quick.{run}
 use Rattle.takes.proofs.WaitingLaws.{empty-line}
 use borrow.Author.Needs.{needs}

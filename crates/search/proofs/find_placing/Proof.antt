@@ -1,5 +1,5 @@
 -- A refusal comes first; an accepted grid is searched.
-use mathlib.Core.Path.{_≡_, sym, ap, _∙_}
+use mathlib.Core.Path.{sym, ap, _∙_}
 use Rattle.grid.specs.Accepted.{judgedNumber}
 use Rattle.search.proofs.FindLaws.{taken, refuses, looks}
 use borrow.Author.Needs.{needs}

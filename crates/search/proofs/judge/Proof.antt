@@ -1,6 +1,5 @@
 -- The cells are looked at only where the lengths are right.
-use mathlib.Core.Path.{_≡_, sym, ap, _∙_}
-use Rattle.grid.specs.Accepted.{judgedNumber}
+use mathlib.Core.Path.{sym, _∙_}
 use Rattle.grid.proofs.AcceptedLaws.{first-next}
 use Rattle.grid.proofs.JudgedLaws.{judged-accepted, judged-refused}
 use Rattle.placing.proofs.CheckLaws.{lengths}

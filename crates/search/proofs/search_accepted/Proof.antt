@@ -1,9 +1,8 @@
 -- The grid is closed first, and the search goes on from there.
-use mathlib.Core.Path.{_≡_, refl, sym, ap, _∙_}
-use Prim.Native.Nat.{ℕ, _*_}
-use lib.ListN.{length, take}
-use Rattle.takes.specs.Steps.{ended}
-use Rattle.search.specs.Rule.{triedBy, fromClosed}
+use mathlib.Core.Path.{sym, ap, _∙_}
+use Prim.Native.Nat.{_*_}
+use lib.ListN.{take}
+use Rattle.search.specs.Rule.{fromClosed}
 use Rattle.search.proofs.RuleLaws.{square, at-first}
 use Rattle.search.proofs.LookLaws.{no-grid, a-grid}
 use Rattle.search.proofs.FindLaws.{search-empty, search-from, answers-none, answers-shown}

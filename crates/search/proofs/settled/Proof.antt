@@ -1,5 +1,5 @@
 -- The test that was made is the one that the rule asks.
-use mathlib.Core.Path.{_≡_, sym}
+use mathlib.Core.Path.{sym}
 use native.Mathlib.Nat.{mul-le-mul}
 use lib.Seq.{length-take-le}
 use Rattle.search.proofs.RuleLaws.{settles-placed, settles-none}

@@ -1,5 +1,5 @@
 -- What is read and composed is the cut's new set, and each answer is one case of the cut.
-use mathlib.Core.Path.{_≡_, sym, _∙_}
+use mathlib.Core.Path.{sym, _∙_}
 use Rattle.theory.proofs.QuickLaws.{shrunk-same, shrunk-dead, shrunk-written}
 use Rattle.takes.proofs.StepsLaws.{cut-is}
 use borrow.Author.Needs.{needs}

@@ -1,5 +1,5 @@
 -- The second cut goes on from where the first ended, or there is none.
-use mathlib.Core.Path.{_≡_, sym, _∙_}
+use mathlib.Core.Path.{sym, _∙_}
 use Rattle.theory.proofs.QuickLaws.{turn-skip-i, turn-skip-j}
 use Rattle.theory.proofs.StepLaws.{turn-dead, turn-going}
 use Rattle.takes.proofs.StepsLaws.{is-dead, is-going, is-sound}

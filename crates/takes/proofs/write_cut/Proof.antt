@@ -1,7 +1,4 @@
 -- The cell and its mirror are put, and the pair joins.
-use mathlib.Core.Path.{_≡_}
-use Rattle.theory.specs.Line.{pairOf}
-use Rattle.theory.proofs.LineLaws.{pair-ok}
 use borrow.Author.Needs.{needs}
 use Rattle.takes.proofs.write_cut.Statement.{statement}
 use Rattle.takes.proofs.write_cut.Tie as tie
