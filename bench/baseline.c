@@ -94,18 +94,26 @@ static int takes(u16 *g, int n, struct line *l) {
     return 1;
 }
 
+// An empty waiting list. One is enough, as no two runs of takes overlap; the ring needs no clearing.
+static struct line *no_pairs(void) {
+    static struct line l;
+    for (int p = 0; p < CELLS; p++) l.waits[p] = 0;
+    l.head = l.len = 0;
+    return &l;
+}
+
 static int close_all(u16 *g, int n) {
-    struct line l = {0};
-    for (int i = 0; i < n; i++) for (int j = i + 1; j < n; j++) join(&l, i, j);
-    return takes(g, n, &l);
+    struct line *l = no_pairs();
+    for (int i = 0; i < n; i++) for (int j = i + 1; j < n; j++) join(l, i, j);
+    return takes(g, n, l);
 }
 
 static int attempt(u16 *g, int n, int i, int j, int r) {
-    struct line l = {0};
+    struct line *l = no_pairs();
     g[i * n + j] = 1 << r;
     g[j * n + i] = 1 << exchanged[r];
-    join(&l, i, j);
-    return takes(g, n, &l);
+    join(l, i, j);
+    return takes(g, n, l);
 }
 
 enum { PLACED, NONE, GAVE_UP, REFUSED };
