@@ -14,7 +14,7 @@ use Rattle.text.specs.Names.{isName, sameName}
 use Rattle.words.specs.Words.{words, meaning}
 use Rattle.sheet.specs.Sheet.{Statement, Outcome, accepted, isEntry, isStatement, owners, bodies, contents, sheet}
 use Rattle.sheet.specs.Grid.{upTo, startGrid, cutBy, cutAll, gridOf}
-use Rattle.shown.specs.Examples.{set, closes, closing, closingOf, mill, worked, printed}
+use Rattle.shown.proofs.Worked.{set, closes, closing, closingOf, mill, worked, printed}
 
 -- the sheet's three events, and its statements: flood {d} mill, wedding {b,m} flood
 abbrev told : List Statement
