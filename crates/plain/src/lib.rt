@@ -9,6 +9,7 @@ ghost use Rattle.plain.specs.Answers.{PlainCloses};
 ghost use Rattle.plain.specs.Routes.{OneRoute, CellTo, RowTo, AllTo, Pass, Sweeps};
 use grid::Judged;
 use refusal::Refusal;
+use relation::UNFILLED;
 
 pub enum PlainAnswer {
     Closed,
@@ -30,7 +31,8 @@ pub fn plain_close(g: &mut [u16], n: usize) -> PlainAnswer
     match judged {
         Judged::Refused(r) => PlainAnswer::Refused(r),
         Judged::Accepted => {
-            let rows = relation::half_rows();
+            let mut rows = [UNFILLED; 2496];
+            relation::fill_half_rows(&mut rows);
             sweep_accepted(&rows, g, n)
         }
     }
@@ -125,10 +127,10 @@ fn cut_by_route(rows: &[u16; 2496], g: &mut [u16], n: usize, a: usize, m: usize,
     let old = grid::get(g, n, a, b);
     let am = grid::get(g, n, a, m);
     let mb = grid::get(g, n, m, b);
-    let new = old & relation::compose_by_rows(rows, am, mb);
-    if new == old {
+    if relation::allows(rows, am, mb, old) {
         return Swept::Moved(false);
     }
+    let new = old & relation::compose_by_rows(rows, am, mb);
     if new == 0 {
         return Swept::Dead;
     }

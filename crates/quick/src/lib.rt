@@ -10,6 +10,7 @@ ghost use Rattle.quick.specs.Answers.{quickRule, QuickCloses};
 ghost use Rattle.quick.specs.Steps.{Shows};
 use grid::Judged;
 use refusal::Refusal;
+use relation::UNFILLED;
 use takes::End;
 use takes::Line;
 
@@ -29,7 +30,8 @@ pub fn quick_close(g: &mut [u16], n: usize, limit: usize) -> QuickAnswer
     match judged {
         Judged::Refused(r) => QuickAnswer::Refused(r),
         Judged::Accepted => {
-            let rows = relation::half_rows();
+            let mut rows = [UNFILLED; 2496];
+            relation::fill_half_rows(&mut rows);
             close_accepted(&rows, g, n, limit)
         }
     }

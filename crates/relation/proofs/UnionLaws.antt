@@ -4,12 +4,12 @@ use mathlib.Core.Bool.{Bool, true, false, not, _&&_, _||_}
 use Prim.Native.Nat.{ℕ, _-_, _%_, _^_, _<_}
 use native.Mathlib.Omega.{arith}
 use lib.Dec.{T, eqb, eqb→eq, eqb-refl, lit<}
-use lib.Bits.{bitOr, or-lt, or-zero-r}
+use lib.Bits.{bitAnd, bitOr, or-lt, or-zero-l, or-zero-r}
 use lib.Pow.{pow-pos}
 use lib.Count.{trailingZeros}
 use Rattle.relation.specs.Sets.{member, some, unionOver, Inside}
 use Rattle.relation.proofs.Tested.{T-of, of-T, and-left, and-right, and-both, or-cases, or-left, or-right, or-assoc, some-at, some-in, both-ways}
-use Rattle.relation.proofs.SetLaws.{member-or, member-low-marks, member-none, member-mark, same, setOf-lt, member-setOf, same-inside, inside-or-left, inside-or-right, or-inside}
+use Rattle.relation.proofs.SetLaws.{member-or, member-low-marks, member-none, member-mark, same, setOf-lt, member-setOf, same-inside, inside-or-left, inside-or-right, or-inside, and-or}
 use Rattle.relation.proofs.LowestLaws.{lowest-thirteen, mark-le, member-without}
 
 -- ---- the members of a union
@@ -171,7 +171,7 @@ pub record Gathers (f : ℕ → ℕ) (a out left : ℕ) : Type 0 where
   pub whole : unionOver f a ≡ bitOr out (unionOver f left)
 
 pub gathers-start : (f : ℕ → ℕ) (a : ℕ) → Gathers f a 0 (a % 8192)
-gathers-start f a = record { out-lt = lit< tt; left-lt = omega arith; whole = sym (union-small f a) ∙ sym (lib.Bits.or-zero-l (unionOver f (a % 8192))) }
+gathers-start f a = record { out-lt = lit< tt; left-lt = omega arith; whole = sym (union-small f a) ∙ sym (or-zero-l (unionOver f (a % 8192))) }
 
 pub gathers-turn : (f : ℕ → ℕ) (a out left r x next : ℕ) → f r < 8192 → Next left r → Gathers f a out left → x ≡ f r
     → next ≡ left - 2 ^ trailingZeros 16 left → Gathers f a (bitOr out x) next
@@ -187,3 +187,7 @@ gathers-turn f a out left r x next m n g e d =
 pub gathers-end : (f : ℕ → ℕ) (a out left : ℕ) → left ≡ 0 → Gathers f a out left → out ≡ unionOver f a
 gathers-end f a out left z g =
     sym (g .whole ∙ ap (bitOr out) (ap (unionOver f) z ∙ union-none f) ∙ or-zero-r out)
+
+-- a set that lies inside what is gathered lies inside the whole
+pub gathers-holds : (f : ℕ → ℕ) (a out left set : ℕ) → Gathers f a out left → set < 65536 → bitAnd set out ≡ set → bitAnd set (unionOver f a) ≡ set
+gathers-holds f a out left set g h e = ap (bitAnd set) (g .whole) ∙ and-or set out (unionOver f left) h e

@@ -1,11 +1,15 @@
 // Sets of the thirteen relations: converse and composition.
 ghost use mathlib.Core.Path.{_≡_};
-ghost use Prim.Native.Nat.{_-_, _^_, _<_};
+ghost use Prim.Native.Nat.{_+_, _-_, _*_, _^_, _≤_, _<_};
+ghost use lib.Bits.{bitAnd};
 ghost use lib.Count.{trailingZeros};
+ghost use lib.Dec.{eqb};
+ghost use lib.ListN.{length};
 ghost use Rattle.relation.specs.Meaning.{exchanged};
 ghost use Rattle.relation.specs.Typed.{ListsExchanged};
 ghost use Rattle.relation.specs.Composition.{table, converse, composeRow, compose};
-ghost use Rattle.relation.specs.HalfRows.{halfSet, HalfRows};
+ghost use Rattle.relation.specs.HalfRows.{HalfRows};
+ghost use Rattle.relation.specs.Filling.{FilledTo, Doubles, Half};
 ghost use Rattle.relation.specs.Answers.{saidOf, converseSaid, composeSaid};
 
 mod table;
@@ -122,29 +126,65 @@ fn compose_of(a: u16, b: u16) -> u16
     out
 }
 
-// The set that a place of a half row stands for: one of the first seven relations, or of the other six.
-fn half_set(q: usize) -> u16
-    requires { ⌜ q < 192 ⌝ }
-    ensures { λ x. ⌜ x ≡ halfSet q ⌝ }
+// One more relation, that gives x: so many places from `at` on come again after them, each with x joined.
+fn double(rows: &mut [u16; 2496], at: usize, size: usize, x: u16)
+    requires { ⌜ (at + size * 2 ≤ 2496) × FilledTo (now rows) (at + size) × Doubles at size x ⌝ }
+    ensures { λ _. ⌜ FilledTo (now (rows .exit)) (at + size * 2) ⌝ }
 {
-    if q < 128 {
-        return q as u16;
+    let mut q = 0;
+    while q < size {
+        rows[at + size + q] = rows[at + q] | x;
+        q += 1;
     }
-    ((q - 128) * 128) as u16
 }
 
-// The half rows, made once for many compositions.
-pub fn half_rows() -> [u16; 2496]
-    ensures { λ rows. ⌜ HalfRows rows ⌝ }
+// A half row of relation r, from `at` on: r with each set of the relations from first to before last.
+fn fill_half(
+    t: &[[u16; 13]; 13],
+    rows: &mut [u16; 2496],
+    r: usize,
+    at: usize,
+    first: usize,
+    last: usize,
+)
+    requires { ⌜ (now t ≡ table) × Half r at first last × FilledTo (now rows) at ⌝ }
+    ensures { λ _. ⌜ FilledTo (now (rows .exit)) (at + 2 ^ (last - first)) ⌝ }
+{
+    rows[at] = 0;
+    let mut size = 1;
+    let mut s = first;
+    while s < last {
+        double(rows, at, size, t[r][s]);
+        size *= 2;
+        s += 1;
+    }
+}
+
+// What stands in the half rows before they are filled in. Zeros would be written by a call of memset, which an emulator runs slowly.
+pub const UNFILLED: u16 = 8191;
+
+// Fills in the half rows, once for many compositions.
+pub fn fill_half_rows(rows: &mut [u16; 2496])
+    requires { ⌜ length (now rows) ≡ 2496 ⌝ }
+    ensures { λ _. ⌜ HalfRows (now (rows .exit)) ⌝ }
 {
     let t = TABLE;
-    let mut rows = [0u16; 2496];
-    let mut p = 0;
-    while p < 2496 {
-        rows[p] = compose_row(&t, p / 192, half_set(p % 192));
-        p += 1;
+    let mut r = 0;
+    while r < 13 {
+        fill_half(&t, rows, r, r * 192, 0, 7);
+        fill_half(&t, rows, r, r * 192 + 128, 7, 13);
+        r += 1;
     }
-    rows
+}
+
+// One relation with a set, from two half rows.
+fn row_by_halves(rows: &[u16; 2496], r: usize, b: u16) -> u16
+    requires { ⌜ HalfRows (now rows) × (r < 13) ⌝ }
+    ensures { λ x. ⌜ x ≡ composeRow r b ⌝ }
+{
+    let low = (b % 128) as usize;
+    let high = 128 + (b / 128 % 64) as usize;
+    rows[r * 192 + low] | rows[r * 192 + high]
 }
 
 // The composition of two sets, from the half rows: for many calls.
@@ -152,14 +192,30 @@ pub fn compose_by_rows(rows: &[u16; 2496], a: u16, b: u16) -> u16
     requires { ⌜ HalfRows (now rows) ⌝ }
     ensures { λ x. ⌜ x ≡ compose a b ⌝ }
 {
-    let low = (b % 128) as usize;
-    let high = 128 + (b / 128 % 64) as usize;
     let mut out: u16 = 0;
     let mut left = a % 8192;
     while left != 0 {
         let r = lowest(left);
-        out |= rows[r * 192 + low] | rows[r * 192 + high];
+        out |= row_by_halves(rows, r, b);
         left = without_lowest(left);
     }
     out
+}
+
+// Whether a with b allows every member of a set. It mostly does after a member or two of a, and then the others are not looked at.
+pub fn allows(rows: &[u16; 2496], a: u16, b: u16, set: u16) -> bool
+    requires { ⌜ HalfRows (now rows) ⌝ }
+    ensures { λ x. ⌜ x ≡ eqb (bitAnd set (compose a b)) set ⌝ }
+{
+    let mut out: u16 = 0;
+    let mut left = a % 8192;
+    while left != 0 {
+        let r = lowest(left);
+        out |= row_by_halves(rows, r, b);
+        if set & out == set {
+            return true;
+        }
+        left = without_lowest(left);
+    }
+    set & out == set
 }

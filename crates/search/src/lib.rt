@@ -16,6 +16,7 @@ ghost use Rattle.search.specs.Answers.{saidOf, searchRefusal, Looks};
 ghost use Rattle.search.specs.Steps.{saidWith, Shows, Settles, Answers, AtCell, Next};
 use grid::Judged;
 use refusal::Refusal;
+use relation::UNFILLED;
 use takes::End;
 use takes::Line;
 
@@ -216,7 +217,8 @@ fn search_accepted(g: &[u16], n: usize, allowance: u32, room: &mut [i32]) -> Pla
     if grid::some_empty(g) {
         return PlaceAnswer::None(0);
     }
-    let rows = relation::half_rows();
+    let mut rows = [UNFILLED; 2496];
+    relation::fill_half_rows(&mut rows);
     let mut work = [0u16; 1024];
     let first = close_copy(&rows, g, &mut work, n);
     let End::Closed(_takes) = first else {

@@ -1,5 +1,6 @@
 // The takes of quick closing, from any waiting list: the core of both closing a given grid and a try of the search.
 ghost use mathlib.Core.Path.{_≡_};
+ghost use mathlib.Core.Bool.{true};
 ghost use Prim.Native.Nat.{_≤_, _<_};
 ghost use Rattle.relation.specs.HalfRows.{HalfRows};
 ghost use Rattle.relation.specs.Composition.{converse};
@@ -8,7 +9,7 @@ ghost use Rattle.theory.specs.Allen.{allen};
 ghost use Rattle.theory.specs.Line.{pairOf, joins};
 ghost use Rattle.theory.specs.Quick.{going, cut, turn, turns, run};
 ghost use Rattle.takes.specs.Waiting.{IsPair, Left};
-ghost use Rattle.takes.specs.Steps.{Waits, waitingIn, Steps, ended};
+ghost use Rattle.takes.specs.Steps.{Waits, waitingIn, Steps, Still, StillUntil, ended};
 
 // The waiting list: it starts at head in the ring and is len pairs long.
 pub struct Line {
@@ -130,6 +131,35 @@ fn turn_at(
     cut_cell(rows, g, ring, flag, n, m, k, i, j)
 }
 
+// Whether the turn of k in the take of (i, j) is seen to cut nothing.
+fn is_still(rows: &[u16; 2496], g: &[u16], n: usize, i: usize, j: usize, k: usize) -> bool
+    requires { ⌜ HalfRows (now rows) × (i < n) × (j < n) × (k < n) × Held n (now g) ⌝ }
+    ensures { λ r. ⌜ (r ≡ true → Still n i j (now (g .entry)) k) ⌝ }
+{
+    let ij = grid::get(g, n, i, j);
+    let jk = grid::get(g, n, j, k);
+    if !relation::allows(rows, ij, jk, grid::get(g, n, i, k)) {
+        return false;
+    }
+    let ki = grid::get(g, n, k, i);
+    relation::allows(rows, ki, ij, grid::get(g, n, k, j))
+}
+
+// The first event from k on whose turn may cut something, or n. Most turns cut nothing, and this only reads.
+fn still_until(rows: &[u16; 2496], g: &[u16], n: usize, i: usize, j: usize, k: usize) -> usize
+    requires { ⌜ HalfRows (now rows) × (i < n) × (j < n) × (k ≤ n) × Held n (now g) ⌝ }
+    ensures { λ r. ⌜ StillUntil n i j (now (g .entry)) k r ⌝ }
+{
+    let mut at = k;
+    while at < n {
+        if !is_still(rows, g, n, i, j, at) {
+            return at;
+        }
+        at += 1;
+    }
+    at
+}
+
 // One take of (i, j).
 fn take_pair(
     rows: &[u16; 2496],
@@ -145,14 +175,14 @@ fn take_pair(
     ensures { λ r. ⌜ Steps n (turns allen n i j n 0 (now (g .entry)) (waitingIn (now (ring .entry)) l)) r (now (g .exit)) (now (ring .exit)) (now (flag .exit)) ⌝ }
 {
     let mut at = l;
-    let mut k = 0;
+    let mut k = still_until(rows, g, n, i, j, 0);
     while k < n {
         let one = turn_at(rows, g, ring, flag, n, at, i, j, k);
         let Cut::Going(m) = one else {
             return Cut::Dead;
         };
         at = m;
-        k += 1;
+        k = still_until(rows, g, n, i, j, k + 1);
     }
     Cut::Going(at)
 }

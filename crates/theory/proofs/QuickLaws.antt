@@ -3,10 +3,10 @@ use mathlib.Core.Path.{_≡_}
 use mathlib.Core.List.{List}
 use Prim.Native.Nat.{ℕ}
 use borrow.Author.Tests.{eq-eqb, ne-eqb}
-use Rattle.grid.specs.Cells.{putBoth}
+use Rattle.grid.specs.Cells.{cell, putBoth}
 use Rattle.theory.specs.Calculus.{Calculus}
 use Rattle.theory.specs.Line.{joins, pairOf}
-use Rattle.theory.specs.Quick.{dead, going, andThen, shrunk, cut, cutBack, turn}
+use Rattle.theory.specs.Quick.{cutTo, dead, going, andThen, shrunk, cut, cutBack, turn}
 
 module _ (A : Calculus) (n a b old v : ℕ) (g q : List ℕ) where
   pub shrunk-same : v ≡ old → shrunk A n a b old v g q ≡ going g q
@@ -20,6 +20,11 @@ module _ (A : Calculus) (n a b old v : ℕ) (g q : List ℕ) where
   pub shrunk-written : (v ≡ old → ⊥) → (v ≡ 0 → ⊥) → shrunk A n a b old v g q ≡ going (putBoth (A .conv) n g a b v) (joins (pairOf a b) q)
   unfolding shrunk
   shrunk-written ne nz = simp (ne-eqb v old ne, ne-eqb v 0 nz)
+
+-- a cut that leaves its cell as it is
+pub cut-still : (A : Calculus) (n a m b : ℕ) (g q : List ℕ) → cutTo A (cell n g) a m b ≡ cell n g a b → cut A n a m b g q ≡ going g q
+unfolding cut
+cut-still A n a m b g q e = shrunk-same A n a b (cell n g a b) (cutTo A (cell n g) a m b) g q e
 
 module _ (A : Calculus) (n i j k : ℕ) (g q : List ℕ) where
   pub turn-skip-i : k ≡ i → turn A n i j k g q ≡ going g q

@@ -3,9 +3,11 @@ use mathlib.Core.Path.{_≡_, refl, ap, _∙_}
 use mathlib.Core.List.{List, [], _∷_}
 use Prim.Native.Nat.{ℕ, zero, suc, _+_, _-_, _/_, _%_, _≤_, _<_}
 use native.Mathlib.Omega.{arith}
+use native.Mathlib.Decide.{ℕ-discrete}
+use Rattle.grid.specs.Cells.{cell}
 use Rattle.theory.specs.Calculus.{Calculus}
-use Rattle.theory.specs.Quick.{Out, dead, going, andThen, cut, cutBack, turn, turns, take, Ended, contradiction, closed, paused, goOn, run}
-use Rattle.theory.proofs.QuickLaws.{turn-is}
+use Rattle.theory.specs.Quick.{cutTo, Out, dead, going, andThen, cut, cutBack, turn, turns, take, Ended, contradiction, closed, paused, goOn, run}
+use Rattle.theory.proofs.QuickLaws.{cut-still, turn-is, turn-skip-i, turn-skip-j}
 
 module _ (A : Calculus) (n i j k : ℕ) (g q : List ℕ) where
   pub turn-dead : (k ≡ i → ⊥) → (k ≡ j → ⊥) → cut A n i j k g q ≡ dead → turn A n i j k g q ≡ dead
@@ -13,6 +15,15 @@ module _ (A : Calculus) (n i j k : ℕ) (g q : List ℕ) where
 
   pub turn-going : (k ≡ i → ⊥) → (k ≡ j → ⊥) → (g' q' : List ℕ) → cut A n i j k g q ≡ going g' q' → turn A n i j k g q ≡ cutBack A n i j k g' q'
   turn-going ni nj g' q' e = turn-is A n i j k g q ni nj ∙ ap (λ (o : Out). andThen o (cutBack A n i j k)) e
+
+  -- where both cuts leave their cells as they are, the turn changes nothing
+  pub turn-still : cutTo A (cell n g) i j k ≡ cell n g i k → cutTo A (cell n g) k i j ≡ cell n g k j → turn A n i j k g q ≡ going g q
+  turn-still e f = go (ℕ-discrete k i) (ℕ-discrete k j)
+    where
+      go : Dec (k ≡ i) → Dec (k ≡ j) → turn A n i j k g q ≡ going g q
+      go (yes u) v = turn-skip-i A n i j k g q u
+      go (no u) (yes v) = turn-skip-j A n i j k g q u v
+      go (no u) (no v) = turn-going u v g q (cut-still A n i j k g q e) ∙ cut-still A n k i j g q f
 
 -- the turns left, with k of n made
 unfoldable pub left : Calculus → ℕ → ℕ → ℕ → ℕ → List ℕ → List ℕ → Out

@@ -2,7 +2,8 @@
 use mathlib.Core.Path.{_≡_}
 use Prim.Native.Nat.{_-_, _*_, _≤_, _<_}
 use lib.ListN.{length, length-set}
-use Rattle.relation.proofs.FillLaws.{Filled, filled-more}
+use Rattle.relation.specs.Filling.{Filled}
+use Rattle.relation.proofs.FillLaws.{filled-more}
 use Rattle.placing.specs.Settling.{endsBefore}
 use borrow.Author.Needs.{needs}
 use native.Mathlib.Omega.{arith}

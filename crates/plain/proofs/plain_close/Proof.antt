@@ -16,11 +16,13 @@ enum-known-judged c = search needs
 enum-told : tie.Need-enum-told
 enum-told c = search needs
 
-half-rows-requires : tie.Need-half-rows-requires
-half-rows-requires c κs = search needs
+fill-half-rows-requires : tie.Need-fill-half-rows-requires
+fill-half-rows-requires c κs = search needs
 
 sweep-accepted-requires : tie.Need-sweep-accepted-requires
-sweep-accepted-requires c κs = (search needs, accepted-grid _ _ (sym (c .before .before .before .before .before .judge .ensures) ∙ ap judgedNumber (c .before .before .before .enum-told .given .1)))
+sweep-accepted-requires c κs =
+    let e = c .before .before .before .before in
+    (search needs, accepted-grid _ _ (sym (e .before .before .judge .ensures) ∙ ap judgedNumber (e .enum-told .given .1)))
 
 same-length : tie.Need-same-length
 same-length c = search needs
@@ -33,7 +35,8 @@ same-length-2 c = search needs
 
 returns-2 : tie.Need-returns-2
 returns-2 c =
-    let z = sym (c .before .before .before .before .before .before .before .before .judge .ensures) ∙ ap judgedNumber (c .before .before .before .before .before .before .enum-told .given .1) in
+    let e = c .before .before .before .before .before .before .before in
+    let z = sym (e .before .before .judge .ensures) ∙ ap judgedNumber (e .enum-told .given .1) in
     closes _ _ (accepted-grid _ _ z) _ z (c .before .before .sweep-accepted .kept .1 .0) _ (c .before .before .sweep-accepted .ensures)
 
 pub plain-close-spec : {M : Type 1} → statement M
@@ -43,7 +46,7 @@ plain-close-spec =
     judge-requires
     enum-known-judged
     enum-told
-    half-rows-requires
+    fill-half-rows-requires
     sweep-accepted-requires
     same-length
     returns

@@ -3,7 +3,6 @@ use mathlib.Core.Path.{refl}
 use Rattle.relation.specs.Composition.{table, composeRow, compose}
 use Rattle.relation.proofs.UnionLaws.{Gathers, gathers-start, gathers-turn, gathers-end, next-of}
 use Rattle.relation.proofs.Laws.{row-lt}
-use Rattle.relation.proofs.Laws.{row-lt}
 use borrow.Author.Needs.{needs}
 use Rattle.relation.proofs.compose_of.Statement.{statement}
 use Rattle.relation.proofs.compose_of.Tie as tie

@@ -2,7 +2,6 @@
 use Rattle.relation.specs.Composition.{entry, composeRow}
 use Rattle.relation.proofs.UnionLaws.{Gathers, gathers-start, gathers-turn, gathers-end, next-of}
 use Rattle.relation.proofs.Laws.{entry-lt, entry-read}
-use Rattle.relation.proofs.Laws.{entry-lt}
 use borrow.Author.Needs.{needs}
 use Rattle.relation.proofs.compose_row.Statement.{statement}
 use Rattle.relation.proofs.compose_row.Tie as tie

@@ -17,33 +17,39 @@ some-empty-requires c κs = search needs
 returns : tie.Need-returns
 returns c = answers-none _ _ _ (search-empty _ _ _ (sym (c .before .some-empty .ensures) ∙ c .if1 .taken))
 
-half-rows-requires : tie.Need-half-rows-requires
-half-rows-requires c κs = search needs
+fill-half-rows-requires : tie.Need-fill-half-rows-requires
+fill-half-rows-requires c κs = search needs
 
 slice-aggregate-close-copy : tie.Need-slice-aggregate-close-copy
 slice-aggregate-close-copy c = search needs
 
 close-copy-requires : tie.Need-close-copy-requires
-close-copy-requires c κs = let s = c .before .before .before .before .before .before .pre in (search needs, s .0, record { few = s .0 .few; fits = square _ (s .0 .few) .1 })
+close-copy-requires c κs =
+    let s = c .before .before .before .before .before .before .before .pre in
+    (search needs, s .0, record { few = s .0 .few; fits = square _ (s .0 .few) .1 })
 
 enum-known-first : tie.Need-enum-known-first
 enum-known-first c = search needs
 
 returns-2 : tie.Need-returns-2
 returns-2 c =
-    let s = c .before .before .before .before .before .before .before .before .before .args in
+    let closing = c .before .before in
+    let test = closing .before .before .before .before .before in
+    let s = test .before .before .before .args in
     answers-none _ _ _
-    (search-from _ _ _ (sym (c .before .before .before .before .before .before .before .some-empty .ensures) ∙ c .before .before .before .before .before .before .if1 .left) _ (c .before .before .close-copy .ensures)
-    ∙ ap (fromClosed _ _) (no-grid (c .before .before .close-copy .result) (take (s .n * s .n) (c .before .before .close-copy .last .1 .1 .0)) (c .match .keys2)))
+    (search-from _ _ _ (sym (test .before .some-empty .ensures) ∙ test .if1 .left) _ (closing .close-copy .ensures)
+    ∙ ap (fromClosed _ _) (no-grid (closing .close-copy .result) (take (s .n * s .n) (closing .close-copy .last .1 .1 .0)) (c .match .keys2)))
 
 mul-left : tie.Need-mul-left
-mul-left c = omega (arith, square _ (c .before .before .before .before .before .before .before .before .before .before .before .pre .0 .few) .1)
+mul-left c = omega (arith, square _ (c .before .before .before .before .before .before .before .before .before .before .before .before .pre .0 .few) .1)
 
 sub-left : tie.Need-sub-left
-sub-left c = square _ (c .before .before .before .before .before .before .before .before .before .before .before .pre .0 .few) .0
+sub-left c = square _ (c .before .before .before .before .before .before .before .before .before .before .before .before .pre .0 .few) .0
 
 look-requires : tie.Need-look-requires
-look-requires c κs = let s = c .before .before .before .before .before .before .before .before .before .before .before .before .before .pre in (search needs, at-first _ (s .0 .few), search needs, s .1)
+look-requires c κs =
+    let s = c .before .before .before .before .before .before .before .before .before .before .before .before .before .before .pre in
+    (search needs, at-first _ (s .0 .few), search needs, s .1)
 
 answer-of-requires : tie.Need-answer-of-requires
 answer-of-requires c κs = search needs
@@ -53,10 +59,13 @@ same-length c = search needs
 
 returns-3 : tie.Need-returns-3
 returns-3 c =
-    let s = c .before .before .before .before .before .before .before .before .before .before .before .before .before .before .before .before .args in
+    let known = c .before .before .before .before .before .before in
+    let closing = known .before .before .before in
+    let test = closing .before .before .before .before .before in
+    let s = test .before .before .before .args in
     answers-shown _ _ _ _ _ _ _ _
-    (search-from _ _ _ (sym (c .before .before .before .before .before .before .before .before .before .before .before .before .before .before .some-empty .ensures) ∙ c .before .before .before .before .before .before .before .before .before .before .before .before .before .if1 .left) _ (c .before .before .before .before .before .before .before .before .before .close-copy .ensures)
-    ∙ ap (fromClosed _ _) (a-grid (c .before .before .before .before .before .before .before .before .before .close-copy .result) _ (take (s .n * s .n) (c .before .before .before .before .before .before .before .before .before .close-copy .last .1 .1 .0)) (c .before .before .before .before .before .before .first .given .1)))
+    (search-from _ _ _ (sym (test .before .some-empty .ensures) ∙ test .if1 .left) _ (closing .close-copy .ensures)
+    ∙ ap (fromClosed _ _) (a-grid (closing .close-copy .result) _ (take (s .n * s .n) (closing .close-copy .last .1 .1 .0)) (known .first .given .1)))
     (c .before .before .look .ensures) (c .answer-of .ensures)
 
 pub search-accepted-spec : {M : Type 1} → statement M
@@ -65,7 +74,7 @@ search-accepted-spec =
     (tie.spec
     some-empty-requires
     returns
-    half-rows-requires
+    fill-half-rows-requires
     slice-aggregate-close-copy
     close-copy-requires
     enum-known-first
