@@ -7,7 +7,7 @@ use native.Mathlib.Numerals.{add-one}
 use native.Mathlib.Omega.{arith}
 use lib.Arith.{digits-lt, digits-div, digits-mod}
 use lib.ListN.{length, getD, set, length-set, take, drop, replicate}
-use lib.Seq.{getD-set-same, getD-set-other, length-take-le, take-suc, drop-cons, append-snoc, set-at}
+use lib.Seq.{getD-set-same, getD-set-other, length-take-le, take-suc, drop-cons, append-snoc, set-at, set-getD}
 use Rattle.grid.specs.Cells.{cell, put, putBoth}
 
 -- a cell's place is inside, and small
@@ -25,6 +25,13 @@ put-length n g i j a = length-set g (i * n + j) a
 pub putBoth-length : (turn : ℕ → ℕ) (n : ℕ) (g : List ℕ) (i j a : ℕ) → length (putBoth turn n g i j a) ≡ length g
 unfolding putBoth
 putBoth-length turn n g i j a = put-length n (put n g i j a) j i (turn a) ∙ put-length n g i j a
+
+-- what stands there already is put: nothing changes
+pub putBoth-same : (turn : ℕ → ℕ) (n : ℕ) (g : List ℕ) (i j a : ℕ) → a ≡ cell n g i j → turn a ≡ cell n g j i → putBoth turn n g i j a ≡ g
+unfolding cell put putBoth
+putBoth-same turn n g i j a e f =
+    ap (λ (h : List ℕ). set h (j * n + i) (turn a)) (ap (set g (i * n + j)) e ∙ set-getD g (i * n + j) 0)
+    ∙ ap (set g (j * n + i)) f ∙ set-getD g (j * n + i) 0
 
 module _ (n : ℕ) (g : List ℕ) (fits : n * n ≤ length g) (i j a : ℕ) (hi : i < n) (hj : j < n) where
   pub cell-put-same : cell n (put n g i j a) i j ≡ a

@@ -18,16 +18,21 @@ use Rattle.theory.specs.Allen.{allen}
 use Rattle.theory.specs.Line.{allPairs}
 use Rattle.theory.specs.Quick as quick
 use Rattle.theory.specs.Search.{Tried, Found, none}
+use Rattle.takes.specs.Steps.{ended}
+use Rattle.takes.specs.declared.End.{End}
+use Rattle.takes.specs.declared.End.the-variants.{Closed}
 use Rattle.quick.proofs.RuleLaws.{rule-empty, rule-run}
 use Rattle.placing.specs.Checking.{lengthRefusal}
 use Rattle.placing.proofs.CheckLaws.{lengths}
 use Rattle.search.specs.Rule.{enough, triedBy, searchOf, fromClosed}
 use Rattle.search.specs.Answers.{saidOf, searchRefusal, saidBy, roomBy, Looks}
-use Rattle.search.specs.Steps.{saidWith, Shows, Answers}
+use Rattle.search.specs.Steps.{saidWith, Shows, Answers, Searched}
 use Rattle.search.specs.declared.Looked.{Looked}
 use Rattle.search.specs.declared.PlaceAnswer.{PlaceAnswer}
 use Rattle.search.specs.declared.PlaceAnswer.the-variants.{Placed, None, GaveUp, Refused}
-use Rattle.search.proofs.SearchRight.{means}
+use Rattle.search.proofs.TryRight.{whole-searched}
+use Rattle.search.proofs.LookLaws.{a-grid}
+use Rattle.search.proofs.SearchRight.{first-whole, means}
 
 -- ---- the first closing, and the search from it
 
@@ -39,6 +44,12 @@ module _ (n allowance : ℕ) (g : List ℕ) where
   pub search-from : someEmpty g ≡ false → (t : Tried) → t ≡ triedBy (quick.run allen n enough 0 g (allPairs n)) → searchOf n allowance g ≡ fromClosed n allowance t
   unfolding searchOf
   search-from e t q = ap (λ (x : quick.Ended). fromClosed n allowance (triedBy x)) (rule-run n enough g e) ∙ ap (fromClosed n allowance) (sym q)
+
+-- the grid that the first closing leaves
+pub first-searched : (n : ℕ) (g : List ℕ) → Accepted n g → someEmpty g ≡ false → (e : End) (v : ℕ) (h : List ℕ)
+    → triedBy (ended e h) ≡ triedBy (quick.run allen n enough 0 g (allPairs n)) → e ≡ Closed v → length h ≡ n * n → Searched n h
+first-searched n g a f e v h q is long =
+    whole-searched n h (first-whole n g a h (ap triedBy (rule-run n enough g f) ∙ sym q ∙ a-grid e v h is)) long
 
 pub answers-none : (n : ℕ) (e : Found) (room : List ℤ) → e ≡ none 0 → Answers n e room (None 0) room
 answers-none n e room q = record { answer = sym (ap saidBy q); room-after = sym (ap (λ (x : Found). roomBy n x room) q) }

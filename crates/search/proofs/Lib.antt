@@ -1,5 +1,5 @@
 pub mod RuleLaws
-pub mod LookLaws
 pub mod TryRight
+pub mod LookLaws
 pub mod SearchRight
 pub mod FindLaws

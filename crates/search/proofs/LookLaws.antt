@@ -20,12 +20,13 @@ use Rattle.takes.specs.declared.End.the-variants.{Contradiction, Closed, Paused
 use Rattle.takes.proofs.End.{the-type as end-type}
 use Rattle.search.specs.Rule.{thereAt, triedBy, tryAt, searchAt}
 use Rattle.search.specs.Answers.{saidBy, roomBy}
-use Rattle.search.specs.Steps.{saidWith, Shows, Settles, AtCell}
+use Rattle.search.specs.Steps.{saidWith, Shows, Settles, Searched, AtCell}
 use Rattle.search.specs.declared.Looked.{Looked}
 use Rattle.search.specs.declared.Outcome.{Outcome}
 use Rattle.search.specs.declared.Outcome.the-variants.{Placed, None, GaveUp}
 use Rattle.search.proofs.Outcome.{the-type as outcome-type}
 use Rattle.search.proofs.RuleLaws.{from, from-closed, from-emptied}
+use Rattle.search.proofs.TryRight.{searched-whole, whole-searched, try-whole}
 
 -- ---- the cell that is read
 
@@ -64,6 +65,12 @@ no-grid (Paused t) g h = refl
 
 pub a-grid : (e : End) (t : ℕ) (g : List ℕ) → e ≡ Closed t → triedBy (ended e g) ≡ closed g
 a-grid e t g q = ap (λ (x : End). triedBy (ended x g)) q
+
+-- the grid that a try leaves
+pub next-searched : (n i j r v : ℕ) (g g' : List ℕ) (e : End) → i < j → j < n → r < 13 → thereAt n (i, j) r g ≡ true → Searched n g
+    → triedBy (ended e g') ≡ tryAt n (i, j) r g → e ≡ Closed v → length g' ≡ n * n → Searched n g'
+next-searched n i j r v g g' e up hj lt is S tried ends long =
+    whole-searched n g' (try-whole n (i, j) r g (up, hj) lt is (searched-whole n g S) g' (sym tried ∙ a-grid e v g' ends)) long
 
 -- ---- what the cells after this one came to
 

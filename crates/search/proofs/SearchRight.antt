@@ -38,7 +38,7 @@ use Rattle.search.specs.Rule.{enough, thereAt, triedBy, tryAt, searchAt,
 use Rattle.search.specs.Answers.{saidOf, saidBy, roomBy, NoLater, FirstPlacing, Meant}
 use Rattle.search.specs.declared.PlaceAnswer.{PlaceAnswer}
 use Rattle.search.specs.declared.PlaceAnswer.the-variants.{Placed, None, GaveUp, Refused}
-use Rattle.search.proofs.TryRight.{meets-uses, uses-meets, Upper, Ready, good-fine, searchable}
+use Rattle.search.proofs.TryRight.{meets-uses, uses-meets, Upper, Whole, Ready, good-fine, searchable}
 
 -- ---- the cells in order are all cells above the diagonal
 
@@ -191,12 +191,18 @@ module _ (n : ℕ) (g : List ℕ) (a : Accepted n g) where
             closing = c;
             ready =
                 record {
-                  fine = good-fine n g h (a .few) G;
-                  full = G .full;
-                  closed = c .closed;
+                  whole = record { fine = good-fine n g h (a .few) G; full = G .full; closed = c .closed };
                   decided = λ p o. inl (pairs-have n (p .0) (p .1) (o .0) (o .1));
                 };
           }
+
+  pub first-whole : (h : List ℕ) → triedBy (quickRule n enough g) ≡ closed h → Whole n h
+  first-whole h = go (quickRule n enough g) refl
+    where
+      go : (e : quick.Ended) → quickRule n enough g ≡ e → triedBy e ≡ closed h → Whole n h
+      go (quick.contradiction t) q z = absurd (let y : _≡_ {A = ℕ} 0 1 = cc in omega arith)
+      go (quick.closed t k) q z = let e : k ≡ h = cc in subst (Whole n) e (first t k q .ready .whole)
+      go (quick.paused t k) q z = absurd (let y : _≡_ {A = ℕ} 0 1 = cc in omega arith)
 
   -- ---- none
 

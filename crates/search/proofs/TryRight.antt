@@ -3,7 +3,7 @@ use mathlib.Core.Path.{_≡_, refl, sym, ap, subst, _∙_}
 use mathlib.Core.Bool.{true}
 use mathlib.Core.Logic.{_⊎_, inl, inr, ⊎-elim}
 use mathlib.Core.List.{List, [], _∷_}
-use Prim.Native.Nat.{ℕ, _^_, _≤_, _<_}
+use Prim.Native.Nat.{ℕ, _*_, _^_, _≤_, _<_}
 use native.Mathlib.Decide.{ℕ-discrete, decLt}
 use native.Mathlib.Omega.{arith}
 use lib.Bits.{bitAnd, and-self}
@@ -21,24 +21,27 @@ use Rattle.relation.proofs.SetLaws.{mark-lt}
 use Rattle.relation.proofs.Relations.{relOf-lt, exactly-one, holds-found}
 use Rattle.relation.proofs.ExchangeLaws.{exchanged-lt, relOf-back, converse-twice}
 use Rattle.grid.specs.Cells.{cell, putBoth}
-use Rattle.grid.proofs.CellLaws.{cell-both-here, cell-both-mirror, cell-both-other}
+use Rattle.grid.proofs.CellLaws.{putBoth-same, cell-both-here, cell-both-mirror, cell-both-other}
 use Rattle.theory.specs.Allen.{allen}
 use Rattle.theory.specs.Closing.{Closed, Closing, Within}
 use Rattle.theory.specs.Line.{pairOf}
 use Rattle.theory.specs.Quick as quick
 use Rattle.theory.specs.Search.{Pair, emptied, closed}
-use Rattle.theory.proofs.AllenLaws.{lawful, eq-lawful, sized}
+use Rattle.theory.proofs.AllenLaws.{lawful, eq-lawful, sized, top-lt}
 use Rattle.theory.proofs.ClosingLaws.{sub-trans}
+use Rattle.theory.proofs.GivenLaws.{fine}
 use Rattle.theory.proofs.KeepLaws.{Good}
+use Rattle.theory.proofs.LineLaws.{pair-ok}
 use Rattle.theory.proofs.SettledLaws.{Right, LeavesGood, run-good}
 use Rattle.theory.proofs.QuickRight.{Fine, Full}
-use Rattle.theory.proofs.TryLaws.{cut-inside, resting, try-right, try-ends}
+use Rattle.theory.proofs.TryLaws.{try-nothing, cut-inside, resting, try-right, try-ends}
 use Rattle.theory.proofs.PlacedLaws.{member-only, mark-inside, inside-mark, only-mark, converse-mark, Uses, uses-more, closing-uses, empty-unused}
 use Rattle.theory.proofs.SearchLaws.{Searchable}
 use Rattle.placing.specs.Placing.{Meets, Scenario}
 use Rattle.placing.specs.Settling.{settles}
 use Rattle.placing.proofs.SettleLaws.{settled-meets, unsettled-none}
 use Rattle.search.specs.Rule.{enough, thereAt, triedBy, tryAt}
+use Rattle.search.specs.Steps.{Searched}
 
 -- ---- placings and cells
 
@@ -60,11 +63,15 @@ Upper n p = (p .0 < p .1) × (p .1 < n)
 abbrev pub Single : ℕ → Pair → List ℕ → Type 0
 Single n p g = (r : ℕ) × (r < 13) × (cell n g (p .0) (p .1) ≡ 2 ^ r)
 
--- closed, without empty cells, and each cell is decided or among those of ps
-pub record Ready (n : ℕ) (ps : List Pair) (g : List ℕ) : Type 0 where
+-- closed, without empty cells
+pub record Whole (n : ℕ) (g : List ℕ) : Type 0 where
   pub fine : Fine allen n g
   pub full : Full n g
   pub closed : Closed allen n (cell n g)
+
+-- and each cell is decided or among those of ps
+pub record Ready (n : ℕ) (ps : List Pair) (g : List ℕ) : Type 0 where
+  pub whole : Whole n g
   pub decided : (q : Pair) → Upper n q → Among q ps ⊎ Single n q g
 
 -- a list with something among it is not empty
@@ -76,9 +83,36 @@ among-some (there w) = omega (arith, among-some w)
 pub good-fine : (n : ℕ) (g₀ g : List ℕ) → n ≤ 32 → Good allen n g₀ g → Fine allen n g
 good-fine n g₀ g few G = record { few = few; fits = G .fits; mirrored = G .reached .mirrored; diagonal = G .diagonal; topped = G .topped }
 
+-- the grid that the code holds
+pub searched-whole : (n : ℕ) (g : List ℕ) → Searched n g → Whole n g
+searched-whole n g S = record { fine = fine n g (S .accepted); full = S .full; closed = S .closed }
+
+pub whole-searched : (n : ℕ) (g : List ℕ) → Whole n g → length g ≡ n * n → Searched n g
+whole-searched n g W long =
+    record {
+      accepted =
+          record {
+            few = W .fine .few;
+            long = long;
+            small = λ i j hi hj. omega (arith, top-lt (cell n g i j) (W .fine .topped i j hi hj));
+            diagonal = W .fine .diagonal;
+            mirrored = W .fine .mirrored;
+          };
+      full = W .full;
+      closed = W .closed;
+    }
+
+-- a try with the one relation that is there cuts nothing
+pub try-same : (n i j r : ℕ) (g : List ℕ) → Searched n g → i < n → j < n → (i ≡ j → ⊥) → cell n g i j ≡ 2 ^ r → tryAt n (i, j) r g ≡ closed g
+unfolding tryAt
+try-same n i j r g S hi hj ne e =
+    ap (λ (h : List ℕ). triedBy (quick.run allen n enough 0 h (pairOf i j ∷ [])))
+    (putBoth-same converse n g i j (2 ^ r) (sym e) (ap converse (sym e) ∙ sym (S .accepted .mirrored i j hi hj)))
+    ∙ ap triedBy (try-nothing allen n g (S .closed) (pairOf i j) (pair-ok n i j (S .accepted .few) hi hj ne) 6447)
+
 -- ---- one try, from a grid that is searched
 
-module _ (n : ℕ) (p : Pair) (ps : List Pair) (r : ℕ) (g : List ℕ) (ok : Upper n p) (lt : r < 13) (is : thereAt n p r g ≡ true) (R : Ready n (p ∷ ps) g) where
+module _ (n : ℕ) (p : Pair) (r : ℕ) (g : List ℕ) (ok : Upper n p) (lt : r < 13) (is : thereAt n p r g ≡ true) (W : Whole n g) where
   abbrev cut : List ℕ
   cut = putBoth converse n g (p .0) (p .1) (2 ^ r)
 
@@ -99,10 +133,10 @@ module _ (n : ℕ) (p : Pair) (ps : List Pair) (r : ℕ) (g : List ℕ) (ok : Up
   some z = omega (arith, pow-pos r)
 
   within : Within allen n (cell n cut) (cell n g)
-  within = cut-inside allen lawful n g (R .fine) (p .0) (p .1) hi (ok .1) apart (2 ^ r) in-cell back
+  within = cut-inside allen lawful n g (W .fine) (p .0) (p .1) hi (ok .1) apart (2 ^ r) in-cell back
 
   here-cut : cell n cut (p .0) (p .1) ≡ 2 ^ r
-  here-cut = cell-both-here converse n g (R .fine .fits) (p .0) (p .1) (2 ^ r) hi (ok .1) apart
+  here-cut = cell-both-here converse n g (W .fine .fits) (p .0) (p .1) (2 ^ r) hi (ok .1) apart
 
   -- what a try leaves
   record Left (g' : List ℕ) : Type 0 where
@@ -121,11 +155,11 @@ module _ (n : ℕ) (p : Pair) (ps : List Pair) (r : ℕ) (g : List ℕ) (ok : Up
           (record {
             closing =
                 subst (Right allen n cut) q
-                (try-right allen lawful n g (R .fine) (p .0) (p .1) hi (ok .1) apart (2 ^ r) in-cell back (R .full) some (R .closed) eq-lawful enough);
+                (try-right allen lawful n g (W .fine) (p .0) (p .1) hi (ok .1) apart (2 ^ r) in-cell back (W .full) some (W .closed) eq-lawful enough);
             good =
                 subst (LeavesGood allen n cut) q
-                (run-good allen lawful n (R .fine .few) cut enough 0 cut (pairOf (p .0) (p .1) ∷ [])
-                (resting allen lawful n g (R .fine) (p .0) (p .1) hi (ok .1) apart (2 ^ r) in-cell back (R .full) some (R .closed)));
+                (run-good allen lawful n (W .fine .few) cut enough 0 cut (pairOf (p .0) (p .1) ∷ [])
+                (resting allen lawful n g (W .fine) (p .0) (p .1) hi (ok .1) apart (2 ^ r) in-cell back (W .full) some (W .closed)));
           })
       go (quick.paused t h) q z = absurd (let y : _≡_ {A = ℕ} 0 1 = cc in omega arith)
 
@@ -136,11 +170,11 @@ module _ (n : ℕ) (p : Pair) (ps : List Pair) (r : ℕ) (g : List ℕ) (ok : Up
       go : (e : quick.Ended) → quick.run allen n enough 0 cut (pairOf (p .0) (p .1) ∷ []) ≡ e → triedBy e ≡ emptied → Closing allen n (cell n cut) (λ i j. 0)
       go (quick.contradiction t) q z =
           subst (Right allen n cut) q
-          (try-right allen lawful n g (R .fine) (p .0) (p .1) hi (ok .1) apart (2 ^ r) in-cell back (R .full) some (R .closed) eq-lawful enough)
+          (try-right allen lawful n g (W .fine) (p .0) (p .1) hi (ok .1) apart (2 ^ r) in-cell back (W .full) some (W .closed) eq-lawful enough)
       go (quick.closed t h) q z = absurd (let y : _≡_ {A = ℕ} 0 1 = cc in omega arith)
       go (quick.paused t h) q z =
           absurd
-          (try-ends allen lawful n g (R .fine) (p .0) (p .1) hi (ok .1) apart (2 ^ r) in-cell back (R .full) some (R .closed) ones sized t h q)
+          (try-ends allen lawful n g (W .fine) (p .0) (p .1) hi (ok .1) apart (2 ^ r) in-cell back (W .full) some (W .closed) ones sized t h q)
 
   -- a placing with relation r for the pair uses the cut grid too
   uses-cut : (P : ℕ → Event) → Uses n P (cell n g) → relOf (P (p .0)) (P (p .1)) ≡ r → Uses n P (cell n cut)
@@ -151,11 +185,11 @@ module _ (n : ℕ) (p : Pair) (ps : List Pair) (r : ℕ) (g : List ℕ) (ok : Up
 
       that : a ≡ p .1 → b ≡ p .0 → T (member (relOf (P a) (P b)) (cell n cut a b))
       that q w =
-          rw (q, w, cell-both-mirror converse n g (R .fine .fits) (p .0) (p .1) (2 ^ r) hi (ok .1), relOf-back (P (p .0)) (P (p .1)), e, converse-mark r lt)
+          rw (q, w, cell-both-mirror converse n g (W .fine .fits) (p .0) (p .1) (2 ^ r) hi (ok .1), relOf-back (P (p .0)) (P (p .1)), e, converse-mark r lt)
           (inside-mark (exchanged r) (2 ^ exchanged r) (exchanged-lt r lt) (and-self (2 ^ exchanged r)))
 
       kept : ((a ≡ p .0) × (b ≡ p .1) → ⊥) → ((a ≡ p .1) × (b ≡ p .0) → ⊥) → T (member (relOf (P a) (P b)) (cell n cut a b))
-      kept q w = rw (cell-both-other converse n g (R .fine .fits) (p .0) (p .1) (2 ^ r) hi (ok .1) a b hb q w) (u a b ha hb)
+      kept q w = rw (cell-both-other converse n g (W .fine .fits) (p .0) (p .1) (2 ^ r) hi (ok .1) a b hb q w) (u a b ha hb)
 
       last : ((a ≡ p .0) × (b ≡ p .1) → ⊥) → Dec (a ≡ p .1) → Dec (b ≡ p .0) → T (member (relOf (P a) (P b)) (cell n cut a b))
       last q (yes v) (yes w) = that v w
@@ -191,10 +225,13 @@ module _ (n : ℕ) (p : Pair) (ps : List Pair) (r : ℕ) (g : List ℕ) (ok : Up
       member-only r (relOf (P (p .0)) (P (p .1))) lt (relOf-lt (P (p .0)) (P (p .1)))
       (subst (λ (x : ℕ). T (member (relOf (P (p .0)) (P (p .1))) x)) (try-chosen g' q) (u (p .0) (p .1) hi (ok .1)))
 
-  pub try-ready : (g' : List ℕ) → tryAt n p r g ≡ closed g' → Ready n ps g'
-  try-ready g' q =
+  pub try-whole : (g' : List ℕ) → tryAt n p r g ≡ closed g' → Whole n g'
+  try-whole g' q =
       let l = left g' q in
-      record { fine = good-fine n cut g' (R .fine .few) (l .good); full = l .good .full; closed = l .closing .closed; decided = decided }
+      record { fine = good-fine n cut g' (W .fine .few) (l .good); full = l .good .full; closed = l .closing .closed }
+
+  pub try-ready : (ps : List Pair) → ((q : Pair) → Upper n q → Among q (p ∷ ps) ⊎ Single n q g) → (g' : List ℕ) → tryAt n p r g ≡ closed g' → Ready n ps g'
+  try-ready ps before g' q = record { whole = try-whole g' q; decided = decided }
     where
       stays : (s : Pair) → Upper n s → Single n s g → Single n s g'
       stays s o w =
@@ -214,7 +251,7 @@ module _ (n : ℕ) (p : Pair) (ps : List Pair) (r : ℕ) (g : List ℕ) (ok : Up
       decided s o =
           ⊎-elim
           (λ w. ⊎-elim (λ e. inr (subst (λ (x : Pair). Single n x g') (sym e) (r, lt, try-chosen g' q))) (λ v. inl v) (first-or s w))
-          (λ w. inr (stays s o w)) (R .decided s o)
+          (λ w. inr (stays s o w)) (before s o)
 
 -- ---- past the last cell
 
@@ -226,16 +263,16 @@ module _ (n : ℕ) (g : List ℕ) (R : Ready n [] g) where
   ready-scenario =
       record {
         single = λ i j hi hj. each i j hi hj (decLt i j) (decLt j i);
-        diagonal = R .fine .diagonal;
-        mirrored = R .fine .mirrored;
+        diagonal = R .whole .fine .diagonal;
+        mirrored = R .whole .fine .mirrored;
       }
     where
       each : (i j : ℕ) → i < n → j < n → Dec (i < j) → Dec (j < i) → (r : ℕ) × (r < 13) × (cell n g i j ≡ 2 ^ r)
       each i j hi hj (yes l) d = single i j l hj
       each i j hi hj (no l) (yes m) =
           let w = single j i m hi in
-          (exchanged (w .0), exchanged-lt (w .0) (w .1), R .fine .mirrored j i hj hi ∙ ap converse (w .2) ∙ converse-mark (w .0) (w .1))
-      each i j hi hj (no l) (no m) = let e : j ≡ i = omega arith in (12, lit< tt, ap (cell n g i) e ∙ R .fine .diagonal i hi)
+          (exchanged (w .0), exchanged-lt (w .0) (w .1), R .whole .fine .mirrored j i hj hi ∙ ap converse (w .2) ∙ converse-mark (w .0) (w .1))
+      each i j hi hj (no l) (no m) = let e : j ≡ i = omega arith in (12, lit< tt, ap (cell n g i) e ∙ R .whole .fine .diagonal i hi)
 
 -- ---- all the laws
 
@@ -250,12 +287,12 @@ searchable n =
       small = λ P p. relOf-lt (P (p .0)) (P (p .1));
       has = λ P p ps g ok R u. is-there n P p g ok u;
       keeps = λ P p ps g g' ok R u q.
-          try-keeps n p ps (relOf (P (p .0)) (P (p .1))) g ok (relOf-lt (P (p .0)) (P (p .1))) (is-there n P p g ok u) R P g' u refl q;
+          try-keeps n p (relOf (P (p .0)) (P (p .1))) g ok (relOf-lt (P (p .0)) (P (p .1))) (is-there n P p g ok u) (R .whole) P g' u refl q;
       never = λ P p ps g ok R u q.
-          try-never n p ps (relOf (P (p .0)) (P (p .1))) g ok (relOf-lt (P (p .0)) (P (p .1))) (is-there n P p g ok u) R P u refl q;
-      good = λ p ps r g g' ok lt is R q. try-ready n p ps r g ok lt is R g' q;
-      inside = λ P p ps r g g' ok lt is R q u. uses-more n P (cell n g') (cell n g) (try-inside n p ps r g ok lt is R g' q) u;
-      chosen = λ P p ps r g g' ok lt is R q u. try-relation n p ps r g ok lt is R P g' q u;
+          try-never n p (relOf (P (p .0)) (P (p .1))) g ok (relOf-lt (P (p .0)) (P (p .1))) (is-there n P p g ok u) (R .whole) P u refl q;
+      good = λ p ps r g g' ok lt is R q. try-ready n p r g ok lt is (R .whole) ps (R .decided) g' q;
+      inside = λ P p ps r g g' ok lt is R q u. uses-more n P (cell n g') (cell n g) (try-inside n p r g ok lt is (R .whole) g' q) u;
+      chosen = λ P p ps r g g' ok lt is R q u. try-relation n p r g ok lt is (R .whole) P g' q u;
       fit = λ g R e. let m = settled-meets n g e in (m .placing, meets-uses n g (m .placing) (m .meets));
       unfit = λ g R e P u. unsettled-none n g (ready-scenario n g R) e P (uses-meets n g P u);
     }

@@ -4,6 +4,10 @@ use mathlib.Core.List.{List, _∷_}
 use Prim.Native.Nat.{ℕ, _≤_, _<_}
 use lib.IntN.{ℤ}
 use lib.ListN.{length}
+use Rattle.grid.specs.Cells.{cell}
+use Rattle.grid.specs.Accepted.{Accepted}
+use Rattle.theory.specs.Allen.{allen}
+use Rattle.theory.specs.Closing.{Closed}
 use Rattle.theory.specs.Search.{Found, pastLast, pairsFrom}
 use Rattle.placing.specs.Settling.{settles}
 use Rattle.search.specs.Answers.{Said, saidPlaced, saidNone, saidGaveUp, saidOf, saidBy, roomBy}
@@ -33,6 +37,12 @@ pub record Settles (n t : ℕ) (g : List ℕ) (room : List ℤ) (l : Looked) (ro
   pub answer : saidWith (l .outcome) (l .tries) ≡ saidBy (pastLast (settles n g) t g)
   pub room-after : room' ≡ roomBy n (pastLast (settles n g) t g) room
   pub tries : l .tries ≡ t
+
+-- a grid that the search goes on from: accepted, with no empty cell, and closed
+pub record Searched (n : ℕ) (g : List ℕ) : Type 0 where
+  pub accepted : Accepted n g
+  pub full : (i j : ℕ) → i < n → j < n → cell n g i j ≡ 0 → ⊥
+  pub closed : Closed allen n (cell n g)
 
 -- the code stands at cell (i, j), or past the last, with so many cells left
 pub record AtCell (n i j left : ℕ) : Type 0 where

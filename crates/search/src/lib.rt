@@ -13,7 +13,7 @@ ghost use Rattle.theory.specs.Search.{pairsFrom};
 ghost use Rattle.takes.specs.Steps.{ended};
 ghost use Rattle.search.specs.Rule.{enough, triedBy, tryAt, searchAt, searchOf};
 ghost use Rattle.search.specs.Answers.{saidOf, searchRefusal, Looks};
-ghost use Rattle.search.specs.Steps.{saidWith, Shows, Settles, Answers, AtCell, Next};
+ghost use Rattle.search.specs.Steps.{saidWith, Shows, Settles, Answers, Searched, AtCell, Next};
 use grid::Judged;
 use refusal::Refusal;
 use relation::UNFILLED;
@@ -68,12 +68,16 @@ fn after(n: usize, i: usize, j: usize) -> Cell
     }
 }
 
-// One try: cuts cell (i, j) and its mirror to relation r, and closes from that pair.
+// One try: cuts cell (i, j) and its mirror to relation r, and closes from that pair. Where r is there alone, nothing is cut.
 fn attempt(rows: &[u16; 2496], g: &mut [u16], n: usize, i: usize, j: usize, r: usize) -> End
-    requires { ⌜ HalfRows (now rows) × Held n (now g) × (i < n) × (j < n) × (i ≡ j → ⊥) × (r < 13) ⌝ }
+    requires { ⌜ HalfRows (now rows) × Searched n (now g) × (i < n) × (j < n) × (i ≡ j → ⊥) × (r < 13) ⌝ }
     ensures { λ e. ⌜ triedBy (ended e (now (g .exit))) ≡ tryAt n (i, j) r (now (g .entry)) ⌝ }
 {
-    grid::put_both(g, n, i, j, relation::mark(r));
+    let only = relation::mark(r);
+    if grid::get(g, n, i, j) == only {
+        return End::Closed(0);
+    }
+    grid::put_both(g, n, i, j, only);
     let mut ring = [0u16; 1024];
     let mut flag = [0u8; 1024];
     let p = takes::pair_of(i, j);
@@ -83,7 +87,7 @@ fn attempt(rows: &[u16; 2496], g: &mut [u16], n: usize, i: usize, j: usize, r: u
 
 // One try on the first n * n cells of a working grid.
 fn attempt_in(rows: &[u16; 2496], work: &mut [u16], n: usize, i: usize, j: usize, r: usize) -> End
-    requires { ⌜ HalfRows (now rows) × Held n (now work) × (i < n) × (j < n) × (i ≡ j → ⊥) × (r < 13) ⌝ }
+    requires { ⌜ HalfRows (now rows) × Held n (now work) × (i < n) × (j < n) × (i ≡ j → ⊥) × (r < 13) × Searched n (take (n * n) (now work)) ⌝ }
     ensures { λ e. ⌜ triedBy (ended e (take (n * n) (now (work .exit)))) ≡ tryAt n (i, j) r (take (n * n) (now (work .entry))) ⌝ }
 {
     let cells = n * n;
@@ -102,7 +106,7 @@ pub fn look(
     allowance: u32,
     room: &mut [i32],
 ) -> Looked
-    requires { ⌜ HalfRows (now rows) × AtCell n i j left × (tries ≤ allowance) × (length (now room) ≡ 2 * n) ⌝ }
+    requires { ⌜ HalfRows (now rows) × AtCell n i j left × (tries ≤ allowance) × (length (now room) ≡ 2 * n) × Searched n (take (n * n) work) ⌝ }
     ensures { λ l. ⌜ Shows n allowance (searchAt n allowance (pairsFrom n i j) (take (n * n) work) tries) (now (room .entry)) l (now (room .exit)) ⌝ }
 {
     if left == 0 {

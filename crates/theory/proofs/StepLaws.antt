@@ -50,6 +50,13 @@ left-dead A n i j k g q h e = left-step A n i j k g q h ∙ ap (λ (o : Out). an
 pub left-going : (A : Calculus) (n i j k : ℕ) (g q g' q' : List ℕ) → k < n → turn A n i j k g q ≡ going g' q' → left A n i j k g q ≡ left A n i j (k + 1) g' q'
 left-going A n i j k g q g' q' h e = left-step A n i j k g q h ∙ ap (λ (o : Out). andThen o (left A n i j (k + 1))) e
 
+-- where no turn changes anything, the take changes nothing
+pub left-still : (A : Calculus) (n i j : ℕ) (g q : List ℕ) → ((k : ℕ) → k < n → turn A n i j k g q ≡ going g q) → (f k : ℕ) → f + k ≡ n
+    → left A n i j k g q ≡ going g q
+left-still A n i j g q s zero k e = left-none A n i j k g q (omega arith)
+left-still A n i j g q s (suc f) k e =
+    left-going A n i j k g q g q (omega arith) (s k (omega arith)) ∙ left-still A n i j g q s f (k + 1) (omega arith)
+
 -- the run with t takes made of limit
 unfoldable pub rest : Calculus → ℕ → ℕ → ℕ → List ℕ → List ℕ → Ended
 rest A n limit t g q = run A n (limit - t) t g q

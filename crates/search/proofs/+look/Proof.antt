@@ -5,10 +5,11 @@ use Prim.Native.Nat.{ℕ, _*_, _-_, _≤_, _<_}
 use native.Mathlib.Omega.{arith}
 use borrow.Author.Needs.{needs}
 use lib.ListN.{length, take}
+use lib.Seq.{length-take-le}
 use Rattle.theory.specs.Search.{pairsFrom}
 use Rattle.search.specs.Rule.{thereAt, tryAt, searchAt}
 use Rattle.search.proofs.RuleLaws.{from, from-end, from-spent, from-past, at-next, square}
-use Rattle.search.proofs.LookLaws.{there-is, look-start, look-end, turn-emptied, turn-none, turn-kept, shows-gave-up, shows-none, in-grid}
+use Rattle.search.proofs.LookLaws.{there-is, next-searched, look-start, look-end, turn-emptied, turn-none, turn-kept, shows-gave-up, shows-none, in-grid}
 use borrow.Fn.Kinds.{In}
 use borrow.Fn.PlainCycle.{Measures, is, falls, and}
 use Rattle.search.proofs.look.Reads as look
@@ -264,7 +265,11 @@ look-attempt-in-requires : (t : ℕ) → look-lts.Need-attempt-in-requires (
   look-below t,
   look.Post,
 ) (look-at t) look.Post look-Inv-loop look-μ-loop
-look-attempt-in-requires t c κs = let w = in-grid _ _ _ _ (c .before .before .before .before .before .before .before .before .before .before .pre .1 .1) (c .before .before .before .before .before .before .before .before .before .if1 .left) in (c .before .before .before .before .before .before .before .before .before .before .pre .1 .0, record { few = c .before .before .before .before .before .before .before .before .before .before .pre .1 .1 .few; fits = let e : length (c .before .before .before .before .before .before .before .before .before .before .args .t6) ≡ 1024 = search needs in omega (arith, square _ (c .before .before .before .before .before .before .before .before .before .before .pre .1 .1 .few) .1) }, w .0, w .1, w .2, c .before .before .before .before .loop-test .taken)
+look-attempt-in-requires t c κs =
+    let s = c .before .before .before .before .before .before .before .before .before .before in
+    let w = in-grid _ _ _ _ (s .pre .1 .1) (c .before .before .before .before .before .before .before .before .before .if1 .left) in
+    let e : length (s .args .t6) ≡ 1024 = search needs in
+    (s .pre .1 .0, record { few = s .pre .1 .1 .few; fits = omega (arith, square _ (s .pre .1 .1 .few) .1) }, w .0, w .1, w .2, c .before .before .before .before .loop-test .taken, s .pre .1 .4)
 
 look-enum-known-answer : (t : ℕ) → look-lts.Need-enum-known-answer (
   settled-reads.Asked,
@@ -367,8 +372,24 @@ look-look-requires : (t : ℕ) → look-lts.Need-look-requires (
   look.Post,
 ) (look-at t) look.Post look-Inv-loop look-μ-loop
 look-look-requires t c κs =
-    let s = c .before .before .before .before .before .before .before .before .before .before .before .before .before .before .before .before .pre in
-    (omega (arith, s .0, c .before .before .before .before .before .before .before .before .before .before .before .before .before .before .before .if1 .left), (s .1 .0, at-next _ _ _ _ _ _ (s .1 .1) (c .before .before .before .before .before .before .before .before .before .before .before .before .after .ensures), search needs, ap length (c .before .before .before .before .before .before .before .before .before .before .before .loop .inv .2) ∙ s .1 .3))
+    let tried = c .before .before .before .before .before in
+    let seen = tried .before .before .before .before in
+    let L = seen .before .before in
+    let got = L .before .before in
+    let s = got .before .before .before in
+    let w = in-grid _ _ _ _ (s .pre .1 .1) (got .before .before .if1 .left) in
+    let e : length (s .args .t6) ≡ 1024 = search (needs, s .good .1 .1 .1 .1 .1 .0) in
+    let is = there-is _ _ _ _ _ _ _ _ (w .0) (w .1) (got .get .ensures) (seen .is-in .ensures) (tried .before .before .before .if2 .taken) in
+    let long = length-take-le (s .args .n * s .args .n) (tried .attempt-in .last .1 .0) (omega (arith, tried .attempt-in .kept .1 .0, square _ (s .pre .1 .1 .few) .1)) in (
+      omega (arith, s .pre .0, got .before .before .if1 .left),
+      (
+        s .pre .1 .0,
+        at-next _ _ _ _ _ _ (s .pre .1 .1) (L .before .after .ensures),
+        search needs,
+        ap length (L .loop .inv .2) ∙ s .pre .1 .3,
+        next-searched _ _ _ _ _ _ _ _ (s .pre .1 .1 .upper) (w .1) (seen .before .loop-test .taken) is (s .pre .1 .4) (tried .attempt-in .ensures) (c .before .before .answer .given .1) long,
+      ),
+    )
 
 look-enum-told : (t : ℕ) → look-lts.Need-enum-told (
   settled-reads.Asked,

@@ -23,7 +23,7 @@ slice-aggregate-attempt c = sym (length-take-le _ _ (c .before .before .pre .1 .
 attempt-requires : tie.Need-attempt-requires
 attempt-requires c κs =
     let s = c .before .before .pre in
-    (s .0, record { few = s .1 .few; fits = rw (length-take-le _ _ (s .1 .fits)) (omega arith) }, s .2, s .3, s .4, s .5)
+    (s .0, s .6, s .2, s .3, s .4, s .5)
 
 same-length : tie.Need-same-length
 same-length c = search needs

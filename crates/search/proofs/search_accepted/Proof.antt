@@ -2,10 +2,11 @@
 use mathlib.Core.Path.{sym, ap, _∙_}
 use Prim.Native.Nat.{_*_}
 use lib.ListN.{take}
+use lib.Seq.{length-take-le}
 use Rattle.search.specs.Rule.{fromClosed}
 use Rattle.search.proofs.RuleLaws.{square, at-first}
 use Rattle.search.proofs.LookLaws.{no-grid, a-grid}
-use Rattle.search.proofs.FindLaws.{search-empty, search-from, answers-none, answers-shown}
+use Rattle.search.proofs.FindLaws.{search-empty, search-from, first-searched, answers-none, answers-shown}
 use native.Mathlib.Omega.{arith}
 use borrow.Author.Needs.{needs}
 use Rattle.search.proofs.search_accepted.Statement.{statement}
@@ -48,8 +49,19 @@ sub-left c = square _ (c .before .before .before .before .before .before .before
 
 look-requires : tie.Need-look-requires
 look-requires c κs =
-    let s = c .before .before .before .before .before .before .before .before .before .before .before .before .before .before .pre in
-    (search needs, at-first _ (s .0 .few), search needs, s .1)
+    let known = c .before .before .before in
+    let closing = known .before .before .before in
+    let test = closing .before .before .before .before .before in
+    let s = test .before .before .before in
+    let n = s .args .n in
+    let h = closing .close-copy .last .1 .1 .0 in
+    let long = length-take-le (n * n) h (omega (arith, closing .close-copy .kept .1 .1 .0, square _ (s .pre .0 .few) .1)) in (
+      search needs,
+      at-first _ (s .pre .0 .few),
+      search needs,
+      s .pre .1,
+      first-searched _ _ (s .pre .0) (sym (test .before .some-empty .ensures) ∙ test .if1 .left) (closing .close-copy .result) _ (take (n * n) h) (closing .close-copy .ensures) (known .first .given .1) long,
+    )
 
 answer-of-requires : tie.Need-answer-of-requires
 answer-of-requires c κs = search needs
