@@ -78,7 +78,7 @@ front-more d s k h g =
 
 -- ---- a cleared grid
 
-zeros : (k p : ℕ) → _≡_ {A = ℕ} (getD (replicate k 0) p 0) 0
+pub zeros : (k p : ℕ) → _≡_ {A = ℕ} (getD (replicate k 0) p 0) 0
 zeros zero p = refl
 zeros (suc k) zero = refl
 zeros (suc k) (suc p) = zeros k p

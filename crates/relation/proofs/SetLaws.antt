@@ -158,10 +158,6 @@ pub same-inside : (a b : ℕ) → a < 8192 → b < 8192 → Inside a b → Insid
 same-inside a b h k i j =
     same a b h k (λ t l. both-ways (member t a) (member t b) (i .each t l) (j .each t l))
 
--- a set is the set of its members
-pub is-setOf : (a : ℕ) (p : ℕ → Bool) → a < 8192 → ((t : ℕ) → t < 13 → member t a ≡ p t) → a ≡ setOf p
-is-setOf a p h e = same a (setOf p) h (setOf-lt p) (λ t l. e t l ∙ sym (member-setOf p t l))
-
 -- ---- inside a union
 
 pub inside-or-left : (a b : ℕ) → Inside a (bitOr a b)

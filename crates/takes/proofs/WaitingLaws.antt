@@ -8,6 +8,7 @@ use native.Mathlib.Omega.{arith}
 use borrow.Author.Tests.{eq-eqb, ne-eqb}
 use lib.ListN.{length, getD, set, length-set, replicate, length-replicate}
 use lib.Seq.{getD-set-same, getD-set-other}
+use Rattle.grid.proofs.CellLaws.{zeros}
 use Rattle.theory.specs.Line.{occurs, joins}
 use Rattle.theory.proofs.LineLaws.{occurs-append, occurs-cons-same, occurs-cons-other, occurs-nil}
 use Rattle.takes.specs.Waiting.{queueOf, total, IsPair, Waiting, Left}
@@ -183,11 +184,6 @@ leaves n small ring flag h (suc l) pos w =
 leaves n small ring flag h zero pos w = absurd (omega arith)
 
 -- an empty line
-getD-zeros : (k p : ℕ) → _≡_ {A = ℕ} (getD (replicate k 0) p 0) 0
-getD-zeros zero p = refl
-getD-zeros (suc k) zero = refl
-getD-zeros (suc k) (suc p) = getD-zeros k p
-
 total-zeros : (k : ℕ) → total (replicate k 0) ≡ 0
 unfolding total
 total-zeros zero = refl
@@ -201,8 +197,8 @@ empty-line n =
       len-small = omega arith;
       ring-len = length-replicate {A = ℕ} 1024 0;
       flag-len = length-replicate {A = ℕ} 1024 0;
-      flags = λ p h. getD-zeros 1024 p ∙ sym (occurs-nil p);
-      once = λ p. omega (arith, getD-zeros 1024 p);
+      flags = λ p h. zeros 1024 p ∙ sym (occurs-nil p);
+      once = λ p. omega (arith, zeros 1024 p);
       counted = total-zeros 1024;
       pairs = λ p h. absurd (omega (arith, h, occurs-nil p));
     }

@@ -32,6 +32,23 @@ look-at t = and 2 look-kinds.ps (is 2 look-kinds.ps μ-look t) look.Pre
 abbrev look-below : ℕ → In 2 look-kinds.ps
 look-below t = and 2 look-kinds.ps (falls 2 look-kinds.ps _<_ μ-look t) look.Pre
 
+-- what each callee asks and tells
+abbrev claims : ℕ → look-lts.Claims
+claims t = (
+  settled-reads.Asked,
+  settled-reads.Learnt,
+  get-reads.Asked,
+  get-reads.Learnt,
+  after-reads.Asked,
+  after-reads.Learnt,
+  is-in-reads.Asked,
+  is-in-reads.Learnt,
+  attempt-in-reads.Asked,
+  attempt-in-reads.Learnt,
+  look-below t,
+  look.Post,
+)
+
 abbrev look-Inv-loop : look-lts.InvT-loop
 look-Inv-loop rows n i j left tries allowance room₀ work set next used₀ r₀ room used r =
     (r ≤ 13) × (used ≤ allowance) × (room ≡ room₀)
@@ -41,298 +58,64 @@ look-Inv-loop rows n i j left tries allowance room₀ work set next used₀ r₀
 abbrev look-μ-loop : look-lts.MeasureT-loop
 look-μ-loop rows n i j left tries allowance room₀ work set next used₀ r₀ room used r = 13 - r
 
-look-slice-aggregate-settled : (t : ℕ) → look-lts.Need-slice-aggregate-settled (
-  settled-reads.Asked,
-  settled-reads.Learnt,
-  get-reads.Asked,
-  get-reads.Learnt,
-  after-reads.Asked,
-  after-reads.Learnt,
-  is-in-reads.Asked,
-  is-in-reads.Learnt,
-  attempt-in-reads.Asked,
-  attempt-in-reads.Learnt,
-  look-below t,
-  look.Post,
-) (look-at t) look.Post look-Inv-loop look-μ-loop
+look-slice-aggregate-settled : (t : ℕ) → look-lts.Need-slice-aggregate-settled (claims t) (look-at t) look.Post look-Inv-loop look-μ-loop
 look-slice-aggregate-settled t c = search needs
 
-look-settled-requires : (t : ℕ) → look-lts.Need-settled-requires (
-  settled-reads.Asked,
-  settled-reads.Learnt,
-  get-reads.Asked,
-  get-reads.Learnt,
-  after-reads.Asked,
-  after-reads.Learnt,
-  is-in-reads.Asked,
-  is-in-reads.Learnt,
-  attempt-in-reads.Asked,
-  attempt-in-reads.Learnt,
-  look-below t,
-  look.Post,
-) (look-at t) look.Post look-Inv-loop look-μ-loop
+look-settled-requires : (t : ℕ) → look-lts.Need-settled-requires (claims t) (look-at t) look.Post look-Inv-loop look-μ-loop
 look-settled-requires t c κs = (record { few = c .before .before .before .pre .1 .1 .few; fits = let e : length (c .before .before .before .args .t6) ≡ 1024 = search needs in omega (arith, square _ (c .before .before .before .pre .1 .1 .few) .1) }, search needs)
 
-look-same-length : (t : ℕ) → look-lts.Need-same-length (
-  settled-reads.Asked,
-  settled-reads.Learnt,
-  get-reads.Asked,
-  get-reads.Learnt,
-  after-reads.Asked,
-  after-reads.Learnt,
-  is-in-reads.Asked,
-  is-in-reads.Learnt,
-  attempt-in-reads.Asked,
-  attempt-in-reads.Learnt,
-  look-below t,
-  look.Post,
-) (look-at t) look.Post look-Inv-loop look-μ-loop
+look-same-length : (t : ℕ) → look-lts.Need-same-length (claims t) (look-at t) look.Post look-Inv-loop look-μ-loop
 look-same-length t c = search needs
 
-look-returns : (t : ℕ) → look-lts.Need-returns (
-  settled-reads.Asked,
-  settled-reads.Learnt,
-  get-reads.Asked,
-  get-reads.Learnt,
-  after-reads.Asked,
-  after-reads.Learnt,
-  is-in-reads.Asked,
-  is-in-reads.Learnt,
-  attempt-in-reads.Asked,
-  attempt-in-reads.Learnt,
-  look-below t,
-  look.Post,
-) (look-at t) look.Post look-Inv-loop look-μ-loop
+look-returns : (t : ℕ) → look-lts.Need-returns (claims t) (look-at t) look.Post look-Inv-loop look-μ-loop
 look-returns t c = look-end _ _ _ _ _ _ _ _ (c .before .before .before .before .before .pre .1 .1 .count ∙ c .before .before .before .before .if1 .taken) (c .before .before .before .before .before .pre .1 .2) (c .before .settled .ensures)
 
-look-slice-aggregate-get : (t : ℕ) → look-lts.Need-slice-aggregate-get (
-  settled-reads.Asked,
-  settled-reads.Learnt,
-  get-reads.Asked,
-  get-reads.Learnt,
-  after-reads.Asked,
-  after-reads.Learnt,
-  is-in-reads.Asked,
-  is-in-reads.Learnt,
-  attempt-in-reads.Asked,
-  attempt-in-reads.Learnt,
-  look-below t,
-  look.Post,
-) (look-at t) look.Post look-Inv-loop look-μ-loop
+look-slice-aggregate-get : (t : ℕ) → look-lts.Need-slice-aggregate-get (claims t) (look-at t) look.Post look-Inv-loop look-μ-loop
 look-slice-aggregate-get t c = search needs
 
-look-get-requires : (t : ℕ) → look-lts.Need-get-requires (
-  settled-reads.Asked,
-  settled-reads.Learnt,
-  get-reads.Asked,
-  get-reads.Learnt,
-  after-reads.Asked,
-  after-reads.Learnt,
-  is-in-reads.Asked,
-  is-in-reads.Learnt,
-  attempt-in-reads.Asked,
-  attempt-in-reads.Learnt,
-  look-below t,
-  look.Post,
-) (look-at t) look.Post look-Inv-loop look-μ-loop
+look-get-requires : (t : ℕ) → look-lts.Need-get-requires (claims t) (look-at t) look.Post look-Inv-loop look-μ-loop
 look-get-requires t c κs = let w = in-grid _ _ _ _ (c .before .before .pre .1 .1) (c .before .if1 .left) in (c .before .before .pre .1 .1 .few, w .0, w .1, let e : length (c .before .before .args .t6) ≡ 1024 = search needs in omega (arith, square _ (c .before .before .pre .1 .1 .few) .1))
 
-look-after-requires : (t : ℕ) → look-lts.Need-after-requires (
-  settled-reads.Asked,
-  settled-reads.Learnt,
-  get-reads.Asked,
-  get-reads.Learnt,
-  after-reads.Asked,
-  after-reads.Learnt,
-  is-in-reads.Asked,
-  is-in-reads.Learnt,
-  attempt-in-reads.Asked,
-  attempt-in-reads.Learnt,
-  look-below t,
-  look.Post,
-) (look-at t) look.Post look-Inv-loop look-μ-loop
+look-after-requires : (t : ℕ) → look-lts.Need-after-requires (claims t) (look-at t) look.Post look-Inv-loop look-μ-loop
 look-after-requires t c κs = let w = in-grid _ _ _ _ (c .before .before .before .pre .1 .1) (c .before .before .if1 .left) in (c .before .before .before .pre .1 .1 .few, c .before .before .before .pre .1 .1 .upper, w .1)
 
-look-loop-holds : (t : ℕ) → look-lts.Need-loop-holds (
-  settled-reads.Asked,
-  settled-reads.Learnt,
-  get-reads.Asked,
-  get-reads.Learnt,
-  after-reads.Asked,
-  after-reads.Learnt,
-  is-in-reads.Asked,
-  is-in-reads.Learnt,
-  attempt-in-reads.Asked,
-  attempt-in-reads.Learnt,
-  look-below t,
-  look.Post,
-) (look-at t) look.Post look-Inv-loop look-μ-loop
+look-loop-holds : (t : ℕ) → look-lts.Need-loop-holds (claims t) (look-at t) look.Post look-Inv-loop look-μ-loop
 look-loop-holds t c = (search needs, search needs, refl, look-start _ _ _ _ _ _ _ (c .after .ensures .pairs))
 
-look-is-in-requires : (t : ℕ) → look-lts.Need-is-in-requires (
-  settled-reads.Asked,
-  settled-reads.Learnt,
-  get-reads.Asked,
-  get-reads.Learnt,
-  after-reads.Asked,
-  after-reads.Learnt,
-  is-in-reads.Asked,
-  is-in-reads.Learnt,
-  attempt-in-reads.Asked,
-  attempt-in-reads.Learnt,
-  look-below t,
-  look.Post,
-) (look-at t) look.Post look-Inv-loop look-μ-loop
+look-is-in-requires : (t : ℕ) → look-lts.Need-is-in-requires (claims t) (look-at t) look.Post look-Inv-loop look-μ-loop
 look-is-in-requires t c κs = search needs
 
-look-same-length-2 : (t : ℕ) → look-lts.Need-same-length-2 (
-  settled-reads.Asked,
-  settled-reads.Learnt,
-  get-reads.Asked,
-  get-reads.Learnt,
-  after-reads.Asked,
-  after-reads.Learnt,
-  is-in-reads.Asked,
-  is-in-reads.Learnt,
-  attempt-in-reads.Asked,
-  attempt-in-reads.Learnt,
-  look-below t,
-  look.Post,
-) (look-at t) look.Post look-Inv-loop look-μ-loop
+look-same-length-2 : (t : ℕ) → look-lts.Need-same-length-2 (claims t) (look-at t) look.Post look-Inv-loop look-μ-loop
 look-same-length-2 t c = search needs
 
-look-returns-2 : (t : ℕ) → look-lts.Need-returns-2 (
-  settled-reads.Asked,
-  settled-reads.Learnt,
-  get-reads.Asked,
-  get-reads.Learnt,
-  after-reads.Asked,
-  after-reads.Learnt,
-  is-in-reads.Asked,
-  is-in-reads.Learnt,
-  attempt-in-reads.Asked,
-  attempt-in-reads.Learnt,
-  look-below t,
-  look.Post,
-) (look-at t) look.Post look-Inv-loop look-μ-loop
+look-returns-2 : (t : ℕ) → look-lts.Need-returns-2 (claims t) (look-at t) look.Post look-Inv-loop look-μ-loop
 look-returns-2 t c =
     shows-gave-up _ _ _ _ _ _ (sym (c .before .before .before .before .loop .inv .3) ∙ from-spent _ _ _ _ _ _ _ _ (c .before .before .before .loop-test .taken) (let w = in-grid _ _ _ _ (c .before .before .before .before .before .before .before .before .before .pre .1 .1) (c .before .before .before .before .before .before .before .before .if1 .left) in there-is _ _ _ _ _ _ _ _ (w .0) (w .1) (c .before .before .before .before .before .before .get .ensures) (c .before .before .is-in .ensures) (c .before .if2 .taken)) (c .if3 .taken))
     (c .before .before .before .before .loop .inv .2) (c .before .before .before .before .loop .inv .1)
 
-look-add-used : (t : ℕ) → look-lts.Need-add-used (
-  settled-reads.Asked,
-  settled-reads.Learnt,
-  get-reads.Asked,
-  get-reads.Learnt,
-  after-reads.Asked,
-  after-reads.Learnt,
-  is-in-reads.Asked,
-  is-in-reads.Learnt,
-  attempt-in-reads.Asked,
-  attempt-in-reads.Learnt,
-  look-below t,
-  look.Post,
-) (look-at t) look.Post look-Inv-loop look-μ-loop
+look-add-used : (t : ℕ) → look-lts.Need-add-used (claims t) (look-at t) look.Post look-Inv-loop look-μ-loop
 look-add-used t c = search needs
 
-look-slice-aggregate-attempt-in : (t : ℕ) → look-lts.Need-slice-aggregate-attempt-in (
-  settled-reads.Asked,
-  settled-reads.Learnt,
-  get-reads.Asked,
-  get-reads.Learnt,
-  after-reads.Asked,
-  after-reads.Learnt,
-  is-in-reads.Asked,
-  is-in-reads.Learnt,
-  attempt-in-reads.Asked,
-  attempt-in-reads.Learnt,
-  look-below t,
-  look.Post,
-) (look-at t) look.Post look-Inv-loop look-μ-loop
+look-slice-aggregate-attempt-in : (t : ℕ) → look-lts.Need-slice-aggregate-attempt-in (claims t) (look-at t) look.Post look-Inv-loop look-μ-loop
 look-slice-aggregate-attempt-in t c = search needs
 
-look-attempt-in-requires : (t : ℕ) → look-lts.Need-attempt-in-requires (
-  settled-reads.Asked,
-  settled-reads.Learnt,
-  get-reads.Asked,
-  get-reads.Learnt,
-  after-reads.Asked,
-  after-reads.Learnt,
-  is-in-reads.Asked,
-  is-in-reads.Learnt,
-  attempt-in-reads.Asked,
-  attempt-in-reads.Learnt,
-  look-below t,
-  look.Post,
-) (look-at t) look.Post look-Inv-loop look-μ-loop
+look-attempt-in-requires : (t : ℕ) → look-lts.Need-attempt-in-requires (claims t) (look-at t) look.Post look-Inv-loop look-μ-loop
 look-attempt-in-requires t c κs =
     let s = c .before .before .before .before .before .before .before .before .before .before in
     let w = in-grid _ _ _ _ (s .pre .1 .1) (c .before .before .before .before .before .before .before .before .before .if1 .left) in
     let e : length (s .args .t6) ≡ 1024 = search needs in
     (s .pre .1 .0, record { few = s .pre .1 .1 .few; fits = omega (arith, square _ (s .pre .1 .1 .few) .1) }, w .0, w .1, w .2, c .before .before .before .before .loop-test .taken, s .pre .1 .4)
 
-look-enum-known-answer : (t : ℕ) → look-lts.Need-enum-known-answer (
-  settled-reads.Asked,
-  settled-reads.Learnt,
-  get-reads.Asked,
-  get-reads.Learnt,
-  after-reads.Asked,
-  after-reads.Learnt,
-  is-in-reads.Asked,
-  is-in-reads.Learnt,
-  attempt-in-reads.Asked,
-  attempt-in-reads.Learnt,
-  look-below t,
-  look.Post,
-) (look-at t) look.Post look-Inv-loop look-μ-loop
+look-enum-known-answer : (t : ℕ) → look-lts.Need-enum-known-answer (claims t) (look-at t) look.Post look-Inv-loop look-μ-loop
 look-enum-known-answer t c = search needs
 
-look-add-r : (t : ℕ) → look-lts.Need-add-r (
-  settled-reads.Asked,
-  settled-reads.Learnt,
-  get-reads.Asked,
-  get-reads.Learnt,
-  after-reads.Asked,
-  after-reads.Learnt,
-  is-in-reads.Asked,
-  is-in-reads.Learnt,
-  attempt-in-reads.Asked,
-  attempt-in-reads.Learnt,
-  look-below t,
-  look.Post,
-) (look-at t) look.Post look-Inv-loop look-μ-loop
+look-add-r : (t : ℕ) → look-lts.Need-add-r (claims t) (look-at t) look.Post look-Inv-loop look-μ-loop
 look-add-r t c = search needs
 
-look-loop-less : (t : ℕ) → look-lts.Need-loop-less (
-  settled-reads.Asked,
-  settled-reads.Learnt,
-  get-reads.Asked,
-  get-reads.Learnt,
-  after-reads.Asked,
-  after-reads.Learnt,
-  is-in-reads.Asked,
-  is-in-reads.Learnt,
-  attempt-in-reads.Asked,
-  attempt-in-reads.Learnt,
-  look-below t,
-  look.Post,
-) (look-at t) look.Post look-Inv-loop look-μ-loop
+look-loop-less : (t : ℕ) → look-lts.Need-loop-less (claims t) (look-at t) look.Post look-Inv-loop look-μ-loop
 look-loop-less t c = search needs
 
-look-loop-again : (t : ℕ) → look-lts.Need-loop-again (
-  settled-reads.Asked,
-  settled-reads.Learnt,
-  get-reads.Asked,
-  get-reads.Learnt,
-  after-reads.Asked,
-  after-reads.Learnt,
-  is-in-reads.Asked,
-  is-in-reads.Learnt,
-  attempt-in-reads.Asked,
-  attempt-in-reads.Learnt,
-  look-below t,
-  look.Post,
-) (look-at t) look.Post look-Inv-loop look-μ-loop
+look-loop-again : (t : ℕ) → look-lts.Need-loop-again (claims t) (look-at t) look.Post look-Inv-loop look-μ-loop
 look-loop-again t c = (
   search needs,
   search needs,
@@ -341,36 +124,10 @@ look-loop-again t c = (
       ∙ c .before .before .before .before .before .before .before .before .loop .inv .3,
 )
 
-look-sub-look : (t : ℕ) → look-lts.Need-sub-look (
-  settled-reads.Asked,
-  settled-reads.Learnt,
-  get-reads.Asked,
-  get-reads.Learnt,
-  after-reads.Asked,
-  after-reads.Learnt,
-  is-in-reads.Asked,
-  is-in-reads.Learnt,
-  attempt-in-reads.Asked,
-  attempt-in-reads.Learnt,
-  look-below t,
-  look.Post,
-) (look-at t) look.Post look-Inv-loop look-μ-loop
+look-sub-look : (t : ℕ) → look-lts.Need-sub-look (claims t) (look-at t) look.Post look-Inv-loop look-μ-loop
 look-sub-look t c = search needs
 
-look-look-requires : (t : ℕ) → look-lts.Need-look-requires (
-  settled-reads.Asked,
-  settled-reads.Learnt,
-  get-reads.Asked,
-  get-reads.Learnt,
-  after-reads.Asked,
-  after-reads.Learnt,
-  is-in-reads.Asked,
-  is-in-reads.Learnt,
-  attempt-in-reads.Asked,
-  attempt-in-reads.Learnt,
-  look-below t,
-  look.Post,
-) (look-at t) look.Post look-Inv-loop look-μ-loop
+look-look-requires : (t : ℕ) → look-lts.Need-look-requires (claims t) (look-at t) look.Post look-Inv-loop look-μ-loop
 look-look-requires t c κs =
     let tried = c .before .before .before .before .before in
     let seen = tried .before .before .before .before in
@@ -391,102 +148,24 @@ look-look-requires t c κs =
       ),
     )
 
-look-enum-told : (t : ℕ) → look-lts.Need-enum-told (
-  settled-reads.Asked,
-  settled-reads.Learnt,
-  get-reads.Asked,
-  get-reads.Learnt,
-  after-reads.Asked,
-  after-reads.Learnt,
-  is-in-reads.Asked,
-  is-in-reads.Learnt,
-  attempt-in-reads.Asked,
-  attempt-in-reads.Learnt,
-  look-below t,
-  look.Post,
-) (look-at t) look.Post look-Inv-loop look-μ-loop
+look-enum-told : (t : ℕ) → look-lts.Need-enum-told (claims t) (look-at t) look.Post look-Inv-loop look-μ-loop
 look-enum-told t c = search needs
 
-look-same-length-3 : (t : ℕ) → look-lts.Need-same-length-3 (
-  settled-reads.Asked,
-  settled-reads.Learnt,
-  get-reads.Asked,
-  get-reads.Learnt,
-  after-reads.Asked,
-  after-reads.Learnt,
-  is-in-reads.Asked,
-  is-in-reads.Learnt,
-  attempt-in-reads.Asked,
-  attempt-in-reads.Learnt,
-  look-below t,
-  look.Post,
-) (look-at t) look.Post look-Inv-loop look-μ-loop
+look-same-length-3 : (t : ℕ) → look-lts.Need-same-length-3 (claims t) (look-at t) look.Post look-Inv-loop look-μ-loop
 look-same-length-3 t c = c .before .before .look .kept .1 .1 .1 .1 .1 .1 .1 .1 .0 ∙ ap length (c .before .before .before .before .before .before .before .before .before .before .before .before .before .before .loop .inv .2)
 
-look-returns-3 : (t : ℕ) → look-lts.Need-returns-3 (
-  settled-reads.Asked,
-  settled-reads.Learnt,
-  get-reads.Asked,
-  get-reads.Learnt,
-  after-reads.Asked,
-  after-reads.Learnt,
-  is-in-reads.Asked,
-  is-in-reads.Learnt,
-  attempt-in-reads.Asked,
-  attempt-in-reads.Learnt,
-  look-below t,
-  look.Post,
-) (look-at t) look.Post look-Inv-loop look-μ-loop
+look-returns-3 : (t : ℕ) → look-lts.Need-returns-3 (claims t) (look-at t) look.Post look-Inv-loop look-μ-loop
 look-returns-3 t c =
     turn-kept _ _ _ _ _ _ _ _ _ (c .before .before .before .before .before .before .before .before .before .before .before .before .before .loop-test .taken) (let w = in-grid _ _ _ _ (c .before .before .before .before .before .before .before .before .before .before .before .before .before .before .before .before .before .before .before .pre .1 .1) (c .before .before .before .before .before .before .before .before .before .before .before .before .before .before .before .before .before .before .if1 .left) in there-is _ _ _ _ _ _ _ _ (w .0) (w .1) (c .before .before .before .before .before .before .before .before .before .before .before .before .before .before .before .before .get .ensures) (c .before .before .before .before .before .before .before .before .before .before .before .before .is-in .ensures) (c .before .before .before .before .before .before .before .before .before .before .before .if2 .taken)) (c .before .before .before .before .before .before .before .before .before .before .if3 .left) (c .before .before .before .before .before .before .before .before .attempt-in .ensures)
     _ _ _ _ (c .before .before .before .before .before .answer .given .1) (c .before .before .look .ensures) (c .match2 .keys2) _ _ (c .before .before .before .before .before .before .before .before .before .before .before .before .before .before .loop .inv .3) (c .before .before .before .before .before .before .before .before .before .before .before .before .before .before .loop .inv .2)
 
-look-add-r-2 : (t : ℕ) → look-lts.Need-add-r-2 (
-  settled-reads.Asked,
-  settled-reads.Learnt,
-  get-reads.Asked,
-  get-reads.Learnt,
-  after-reads.Asked,
-  after-reads.Learnt,
-  is-in-reads.Asked,
-  is-in-reads.Learnt,
-  attempt-in-reads.Asked,
-  attempt-in-reads.Learnt,
-  look-below t,
-  look.Post,
-) (look-at t) look.Post look-Inv-loop look-μ-loop
+look-add-r-2 : (t : ℕ) → look-lts.Need-add-r-2 (claims t) (look-at t) look.Post look-Inv-loop look-μ-loop
 look-add-r-2 t c = search needs
 
-look-loop-less-2 : (t : ℕ) → look-lts.Need-loop-less-2 (
-  settled-reads.Asked,
-  settled-reads.Learnt,
-  get-reads.Asked,
-  get-reads.Learnt,
-  after-reads.Asked,
-  after-reads.Learnt,
-  is-in-reads.Asked,
-  is-in-reads.Learnt,
-  attempt-in-reads.Asked,
-  attempt-in-reads.Learnt,
-  look-below t,
-  look.Post,
-) (look-at t) look.Post look-Inv-loop look-μ-loop
+look-loop-less-2 : (t : ℕ) → look-lts.Need-loop-less-2 (claims t) (look-at t) look.Post look-Inv-loop look-μ-loop
 look-loop-less-2 t c = search needs
 
-look-loop-again-2 : (t : ℕ) → look-lts.Need-loop-again-2 (
-  settled-reads.Asked,
-  settled-reads.Learnt,
-  get-reads.Asked,
-  get-reads.Learnt,
-  after-reads.Asked,
-  after-reads.Learnt,
-  is-in-reads.Asked,
-  is-in-reads.Learnt,
-  attempt-in-reads.Asked,
-  attempt-in-reads.Learnt,
-  look-below t,
-  look.Post,
-) (look-at t) look.Post look-Inv-loop look-μ-loop
+look-loop-again-2 : (t : ℕ) → look-lts.Need-loop-again-2 (claims t) (look-at t) look.Post look-Inv-loop look-μ-loop
 look-loop-again-2 t c =
     let at = c .before .before .before .loop in
     let in-cell = in-grid _ _ _ _ (c .before .before .before .before .before .before .before .before .pre .1 .1) (c .before .before .before .before .before .before .before .if1 .left) in
@@ -503,53 +182,14 @@ look-loop-again-2 t c =
     ))
     (c .if2 .came)
 
-look-same-length-4 : (t : ℕ) → look-lts.Need-same-length-4 (
-  settled-reads.Asked,
-  settled-reads.Learnt,
-  get-reads.Asked,
-  get-reads.Learnt,
-  after-reads.Asked,
-  after-reads.Learnt,
-  is-in-reads.Asked,
-  is-in-reads.Learnt,
-  attempt-in-reads.Asked,
-  attempt-in-reads.Learnt,
-  look-below t,
-  look.Post,
-) (look-at t) look.Post look-Inv-loop look-μ-loop
+look-same-length-4 : (t : ℕ) → look-lts.Need-same-length-4 (claims t) (look-at t) look.Post look-Inv-loop look-μ-loop
 look-same-length-4 t c = search needs
 
-look-returns-4 : (t : ℕ) → look-lts.Need-returns-4 (
-  settled-reads.Asked,
-  settled-reads.Learnt,
-  get-reads.Asked,
-  get-reads.Learnt,
-  after-reads.Asked,
-  after-reads.Learnt,
-  is-in-reads.Asked,
-  is-in-reads.Learnt,
-  attempt-in-reads.Asked,
-  attempt-in-reads.Learnt,
-  look-below t,
-  look.Post,
-) (look-at t) look.Post look-Inv-loop look-μ-loop
+look-returns-4 : (t : ℕ) → look-lts.Need-returns-4 (claims t) (look-at t) look.Post look-Inv-loop look-μ-loop
 look-returns-4 t c = shows-none _ _ _ _ _ _ (sym (c .before .loop .inv .3) ∙ from-end _ _ _ _ _ _ _ _ (c .loop-test .left)) (c .before .loop .inv .2) (c .before .loop .inv .1)
 
 pub +look-spec : {M : Type 1} → statement M
-+look-spec = close μ-look λ t. look-lts.spec (
-  settled-reads.Asked,
-  settled-reads.Learnt,
-  get-reads.Asked,
-  get-reads.Learnt,
-  after-reads.Asked,
-  after-reads.Learnt,
-  is-in-reads.Asked,
-  is-in-reads.Learnt,
-  attempt-in-reads.Asked,
-  attempt-in-reads.Learnt,
-  look-below t,
-  look.Post,
-)
++look-spec = close μ-look λ t. look-lts.spec (claims t)
     (look-at t)
     look.Post
     look-Inv-loop

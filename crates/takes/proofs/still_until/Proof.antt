@@ -1,7 +1,5 @@
 -- The turns from the first event on come to those from where it stands.
-use mathlib.Core.Path.{_≡_, refl, sym, _∙_}
-use mathlib.Core.List.{List}
-use Prim.Native.Nat.{_-_, _≤_}
+use Prim.Native.Nat.{_-_}
 use Rattle.takes.specs.Steps.{StillUntil}
 use Rattle.takes.proofs.StepsLaws.{still-from, still-more}
 use borrow.Author.Tests.{not-false}
