@@ -15,16 +15,32 @@ some-not-eq-requires : tie.Need-some-not-eq-requires
 some-not-eq-requires c κs = search needs
 
 returns-2 : tie.Need-returns-2
-returns-2 c = sym (cells-not-eq (c .before .before .before .before .before .args .n) (c .before .before .before .before .before .args .g .now) (sym (c .before .before .before .some-large .ensures) ∙ c .before .before .if1 .left) (sym (c .before .some-not-eq .ensures) ∙ c .if2 .taken))
+returns-2 c =
+    let s = c .before .before .before .before .before in
+    let some-large = c .before .before .before .some-large in
+    let if1 = c .before .before .if1 in
+    sym (cells-not-eq (s .args .n) (s .args .g .now) (sym (some-large .ensures) ∙ if1 .left) (sym (c .before .some-not-eq .ensures) ∙ c .if2 .taken))
 
 some-unlike-requires : tie.Need-some-unlike-requires
 some-unlike-requires c κs = search needs
 
 returns-3 : tie.Need-returns-3
-returns-3 c = sym (cells-unlike (c .before .before .before .before .before .before .before .args .n) (c .before .before .before .before .before .before .before .args .g .now) (sym (c .before .before .before .before .before .some-large .ensures) ∙ c .before .before .before .before .if1 .left) (sym (c .before .before .before .some-not-eq .ensures) ∙ c .before .before .if2 .left) (sym (c .before .some-unlike .ensures) ∙ c .if3 .taken))
+returns-3 c =
+    let s = c .before .before .before .before .before .before .before in
+    let some-large = c .before .before .before .before .before .some-large in
+    let if1 = c .before .before .before .before .if1 in
+    let some-not-eq = c .before .before .before .some-not-eq in
+    let if2 = c .before .before .if2 in
+    sym (cells-unlike (s .args .n) (s .args .g .now) (sym (some-large .ensures) ∙ if1 .left) (sym (some-not-eq .ensures) ∙ if2 .left) (sym (c .before .some-unlike .ensures) ∙ c .if3 .taken))
 
 returns-4 : tie.Need-returns-4
-returns-4 c = sym (cells-fine (c .before .before .before .before .before .before .before .args .n) (c .before .before .before .before .before .before .before .args .g .now) (sym (c .before .before .before .before .before .some-large .ensures) ∙ c .before .before .before .before .if1 .left) (sym (c .before .before .before .some-not-eq .ensures) ∙ c .before .before .if2 .left) (sym (c .before .some-unlike .ensures) ∙ c .if3 .left))
+returns-4 c =
+    let s = c .before .before .before .before .before .before .before in
+    let some-large = c .before .before .before .before .before .some-large in
+    let if1 = c .before .before .before .before .if1 in
+    let some-not-eq = c .before .before .before .some-not-eq in
+    let if2 = c .before .before .if2 in
+    sym (cells-fine (s .args .n) (s .args .g .now) (sym (some-large .ensures) ∙ if1 .left) (sym (some-not-eq .ensures) ∙ if2 .left) (sym (c .before .some-unlike .ensures) ∙ c .if3 .left))
 
 pub judge-cells-spec : {M : Type 1} → statement M
 judge-cells-spec =

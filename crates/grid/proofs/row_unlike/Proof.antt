@@ -31,7 +31,12 @@ get-requires-2 : tie.Need-get-requires-2 Inv-loop μ-loop
 get-requires-2 c κs = (search needs, search needs, search needs, omega arith)
 
 returns : tie.Need-returns Inv-loop μ-loop
-returns c = sym (some-yes (c .before .before .before .before .before .before .before .args .n) (λ j. not (eqb (cell (c .before .before .before .before .before .before .before .args .n) (c .before .before .before .before .before .before .before .args .g .now) j (c .before .before .before .before .before .before .before .args .i)) (converse (cell (c .before .before .before .before .before .before .before .args .n) (c .before .before .before .before .before .before .before .args .g .now) (c .before .before .before .before .before .before .before .args .i) j)))) (c .before .before .before .before .before .loop .j) (search needs) (ap not (ne-eqb _ _ (λ e. c .if1 .taken (c .before .get2 .ensures ∙ e ∙ sym (c .before .before .converse-of .ensures ∙ ap converse (c .before .before .before .get .ensures)))))))
+returns c =
+    let s = c .before .before .before .before .before .before .before in
+    let L = c .before .before .before .before .before .loop in
+    let get = c .before .before .before .get in
+    let converse-of = c .before .before .converse-of in
+    sym (some-yes (s .args .n) (λ j. not (eqb (cell (s .args .n) (s .args .g .now) j (s .args .i)) (converse (cell (s .args .n) (s .args .g .now) (s .args .i) j)))) (L .j) (search needs) (ap not (ne-eqb _ _ (λ e. c .if1 .taken (c .before .get2 .ensures ∙ e ∙ sym (converse-of .ensures ∙ ap converse (get .ensures)))))))
 
 add-j : tie.Need-add-j Inv-loop μ-loop
 add-j c = search needs
@@ -40,12 +45,19 @@ loop-less : tie.Need-loop-less Inv-loop μ-loop
 loop-less c = search needs
 
 loop-again : tie.Need-loop-again Inv-loop μ-loop
-loop-again c = (search needs, none-more (λ j. not (eqb (cell (c .before .before .before .before .before .before .before .args .n) (c .before .before .before .before .before .before .before .args .g .now) j (c .before .before .before .before .before .before .before .args .i)) (converse (cell (c .before .before .before .before .before .before .before .args .n) (c .before .before .before .before .before .before .before .args .g .now) (c .before .before .before .before .before .before .before .args .i) j)))) (c .before .before .before .before .before .loop .j) (c .before .before .before .before .before .loop .inv .1) (ap not (eq-eqb _ _ (sym (c .before .get2 .ensures) ∙ c .if1 .left ∙ c .before .before .converse-of .ensures ∙ ap converse (c .before .before .before .get .ensures)))))
+loop-again c =
+    let s = c .before .before .before .before .before .before .before in
+    let L = c .before .before .before .before .before .loop in
+    let get = c .before .before .before .get in
+    let converse-of = c .before .before .converse-of in
+    (search needs, none-more (λ j. not (eqb (cell (s .args .n) (s .args .g .now) j (s .args .i)) (converse (cell (s .args .n) (s .args .g .now) (s .args .i) j)))) (L .j) (L .inv .1) (ap not (eq-eqb _ _ (sym (c .before .get2 .ensures) ∙ c .if1 .left ∙ converse-of .ensures ∙ ap converse (get .ensures)))))
 
 returns-2 : tie.Need-returns-2 Inv-loop μ-loop
 returns-2 c =
-    let e : c .before .loop .j ≡ c .before .before .before .args .n = omega arith in
-    sym (some-no (c .before .before .before .args .n) (λ j. not (eqb (cell (c .before .before .before .args .n) (c .before .before .before .args .g .now) j (c .before .before .before .args .i)) (converse (cell (c .before .before .before .args .n) (c .before .before .before .args .g .now) (c .before .before .before .args .i) j)))) (subst (NoneBelow (λ j. not (eqb (cell (c .before .before .before .args .n) (c .before .before .before .args .g .now) j (c .before .before .before .args .i)) (converse (cell (c .before .before .before .args .n) (c .before .before .before .args .g .now) (c .before .before .before .args .i) j))))) e (c .before .loop .inv .1)))
+    let s = c .before .before .before in
+    let L = c .before .loop in
+    let e : L .j ≡ s .args .n = omega arith in
+    sym (some-no (s .args .n) (λ j. not (eqb (cell (s .args .n) (s .args .g .now) j (s .args .i)) (converse (cell (s .args .n) (s .args .g .now) (s .args .i) j)))) (subst (NoneBelow (λ j. not (eqb (cell (s .args .n) (s .args .g .now) j (s .args .i)) (converse (cell (s .args .n) (s .args .g .now) (s .args .i) j))))) e (L .inv .1)))
 
 pub row-unlike-spec : {M : Type 1} → statement M
 row-unlike-spec =

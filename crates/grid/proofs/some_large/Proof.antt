@@ -26,7 +26,10 @@ shared-slice-read-if1 : tie.Need-shared-slice-read-if1 Inv-loop μ-loop
 shared-slice-read-if1 c = search needs
 
 returns : tie.Need-returns Inv-loop μ-loop
-returns c = sym (some-yes (length (c .before .before .before .before .args .g .now)) (λ k. ltb 8191 (getD (c .before .before .before .before .args .g .now) k 0)) (c .before .before .before .loop .p) (search needs) (lt-ltb _ _ (c .if1 .taken)))
+returns c =
+    let s = c .before .before .before .before in
+    let L = c .before .before .before .loop in
+    sym (some-yes (length (s .args .g .now)) (λ k. ltb 8191 (getD (s .args .g .now) k 0)) (L .p) (search needs) (lt-ltb _ _ (c .if1 .taken)))
 
 add-p : tie.Need-add-p Inv-loop μ-loop
 add-p c = search needs
@@ -35,7 +38,10 @@ loop-less : tie.Need-loop-less Inv-loop μ-loop
 loop-less c = search needs
 
 loop-again : tie.Need-loop-again Inv-loop μ-loop
-loop-again c = (search needs, none-more (λ k. ltb 8191 (getD (c .before .before .before .before .args .g .now) k 0)) (c .before .before .before .loop .p) (c .before .before .before .loop .inv .1) (le-ltb _ _ (c .if1 .left)))
+loop-again c =
+    let s = c .before .before .before .before in
+    let L = c .before .before .before .loop in
+    (search needs, none-more (λ k. ltb 8191 (getD (s .args .g .now) k 0)) (L .p) (L .inv .1) (le-ltb _ _ (c .if1 .left)))
 
 returns-2 : tie.Need-returns-2 Inv-loop μ-loop
 returns-2 c =

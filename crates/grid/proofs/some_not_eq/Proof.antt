@@ -24,7 +24,10 @@ get-requires : tie.Need-get-requires Inv-loop μ-loop
 get-requires c κs = (search needs, search needs, search needs, omega arith)
 
 returns : tie.Need-returns Inv-loop μ-loop
-returns c = sym (some-yes (c .before .before .before .before .before .args .n) (λ i. not (eqb (cell (c .before .before .before .before .before .args .n) (c .before .before .before .before .before .args .g .now) i i) 4096)) (c .before .before .before .loop .i) (search needs) (ap not (ne-eqb _ _ (λ e. c .if1 .taken (c .before .get .ensures ∙ e)))))
+returns c =
+    let s = c .before .before .before .before .before in
+    let L = c .before .before .before .loop in
+    sym (some-yes (s .args .n) (λ i. not (eqb (cell (s .args .n) (s .args .g .now) i i) 4096)) (L .i) (search needs) (ap not (ne-eqb _ _ (λ e. c .if1 .taken (c .before .get .ensures ∙ e)))))
 
 add-i : tie.Need-add-i Inv-loop μ-loop
 add-i c = search needs
@@ -33,12 +36,17 @@ loop-less : tie.Need-loop-less Inv-loop μ-loop
 loop-less c = search needs
 
 loop-again : tie.Need-loop-again Inv-loop μ-loop
-loop-again c = (search needs, none-more (λ i. not (eqb (cell (c .before .before .before .before .before .args .n) (c .before .before .before .before .before .args .g .now) i i) 4096)) (c .before .before .before .loop .i) (c .before .before .before .loop .inv .1) (ap not (eq-eqb _ _ (sym (c .before .get .ensures) ∙ c .if1 .left))))
+loop-again c =
+    let s = c .before .before .before .before .before in
+    let L = c .before .before .before .loop in
+    (search needs, none-more (λ i. not (eqb (cell (s .args .n) (s .args .g .now) i i) 4096)) (L .i) (L .inv .1) (ap not (eq-eqb _ _ (sym (c .before .get .ensures) ∙ c .if1 .left))))
 
 returns-2 : tie.Need-returns-2 Inv-loop μ-loop
 returns-2 c =
-    let e : c .before .loop .i ≡ c .before .before .before .args .n = omega arith in
-    sym (some-no (c .before .before .before .args .n) (λ i. not (eqb (cell (c .before .before .before .args .n) (c .before .before .before .args .g .now) i i) 4096)) (subst (NoneBelow (λ i. not (eqb (cell (c .before .before .before .args .n) (c .before .before .before .args .g .now) i i) 4096))) e (c .before .loop .inv .1)))
+    let s = c .before .before .before in
+    let L = c .before .loop in
+    let e : L .i ≡ s .args .n = omega arith in
+    sym (some-no (s .args .n) (λ i. not (eqb (cell (s .args .n) (s .args .g .now) i i) 4096)) (subst (NoneBelow (λ i. not (eqb (cell (s .args .n) (s .args .g .now) i i) 4096))) e (L .inv .1)))
 
 pub some-not-eq-spec : {M : Type 1} → statement M
 some-not-eq-spec =

@@ -21,7 +21,10 @@ row-unlike-requires : tie.Need-row-unlike-requires Inv-loop μ-loop
 row-unlike-requires c κs = (search needs, search needs, search needs)
 
 returns : tie.Need-returns Inv-loop μ-loop
-returns c = sym (some-yes (c .before .before .before .before .before .args .n) (rowUnlike (c .before .before .before .before .before .args .n) (c .before .before .before .before .before .args .g .now)) (c .before .before .before .loop .i) (search needs) (sym (c .before .row-unlike .ensures) ∙ c .if1 .taken))
+returns c =
+    let s = c .before .before .before .before .before in
+    let L = c .before .before .before .loop in
+    sym (some-yes (s .args .n) (rowUnlike (s .args .n) (s .args .g .now)) (L .i) (search needs) (sym (c .before .row-unlike .ensures) ∙ c .if1 .taken))
 
 add-i : tie.Need-add-i Inv-loop μ-loop
 add-i c = search needs
@@ -30,12 +33,17 @@ loop-less : tie.Need-loop-less Inv-loop μ-loop
 loop-less c = search needs
 
 loop-again : tie.Need-loop-again Inv-loop μ-loop
-loop-again c = (search needs, none-more (rowUnlike (c .before .before .before .before .before .args .n) (c .before .before .before .before .before .args .g .now)) (c .before .before .before .loop .i) (c .before .before .before .loop .inv .1) (sym (c .before .row-unlike .ensures) ∙ c .if1 .left))
+loop-again c =
+    let s = c .before .before .before .before .before in
+    let L = c .before .before .before .loop in
+    (search needs, none-more (rowUnlike (s .args .n) (s .args .g .now)) (L .i) (L .inv .1) (sym (c .before .row-unlike .ensures) ∙ c .if1 .left))
 
 returns-2 : tie.Need-returns-2 Inv-loop μ-loop
 returns-2 c =
-    let e : c .before .loop .i ≡ c .before .before .before .args .n = omega arith in
-    sym (some-no (c .before .before .before .args .n) (rowUnlike (c .before .before .before .args .n) (c .before .before .before .args .g .now)) (subst (NoneBelow (rowUnlike (c .before .before .before .args .n) (c .before .before .before .args .g .now))) e (c .before .loop .inv .1)))
+    let s = c .before .before .before in
+    let L = c .before .loop in
+    let e : L .i ≡ s .args .n = omega arith in
+    sym (some-no (s .args .n) (rowUnlike (s .args .n) (s .args .g .now)) (subst (NoneBelow (rowUnlike (s .args .n) (s .args .g .now))) e (L .inv .1)))
 
 pub some-unlike-spec : {M : Type 1} → statement M
 some-unlike-spec =

@@ -57,14 +57,17 @@ same-length-3 c = search needs
 
 returns-5 : tie.Need-returns-5
 returns-5 c =
-    let made = c .before .before .before .before .before in
+    let before = c .before .before .before .before .before in
+    let if4 = c .before .before .before .before .if4 in
+    let put-both = c .before .before .put-both in
+    let made = before in
     let asked = made .before .before in
     let at = asked .before in
     let test = at .before .before .before .before .before .before in
     let s = test .before .before .before .pre in
     shrinks _ _ _ _ _ (s .4) _ _ _ _ (at .before .before .before .before .get .ensures) (at .before .before .get2 .ensures) (at .get3 .ensures) (made .compose-by-rows .ensures)
     (s .1) (s .2) (s .3) (test .before .if1 .left) (test .if2 .left)
-    (λ e. eqb-false _ _ (sym (asked .allows .ensures) ∙ made .before .if3 .left) (ap (bitAnd (at .before .before .before .before .get .result)) (sym (made .compose-by-rows .ensures)) ∙ e)) (c .before .before .before .before .if4 .left) _ (c .before .before .put-both .ensures)
+    (λ e. eqb-false _ _ (sym (asked .allows .ensures) ∙ made .before .if3 .left) (ap (bitAnd (at .before .before .before .before .get .result)) (sym (made .compose-by-rows .ensures)) ∙ e)) (if4 .left) _ (put-both .ensures)
 
 pub cut-by-route-spec : {M : Type 1} → statement M
 cut-by-route-spec =

@@ -39,7 +39,9 @@ loop-holds : tie.Need-loop-holds Inv-loop μ-loop
 loop-holds c = (refl, none)
 
 sweep-all-requires : tie.Need-sweep-all-requires Inv-loop μ-loop
-sweep-all-requires c κs = (c .before .before .before .before .before .before .pre .0, record { few = c .before .before .before .before .before .before .pre .1 .few; fits = omega (arith, c .before .before .before .before .before .before .pre .1 .long, c .before .loop .inv .0) })
+sweep-all-requires c κs =
+    let s = c .before .before .before .before .before .before in
+    (s .pre .0, record { few = s .pre .1 .few; fits = omega (arith, s .pre .1 .long, c .before .loop .inv .0) })
 
 enum-known-one : tie.Need-enum-known-one Inv-loop μ-loop
 enum-known-one c = search needs
@@ -54,24 +56,38 @@ same-length-2 : tie.Need-same-length-2 Inv-loop μ-loop
 same-length-2 c = search needs
 
 returns-2 : tie.Need-returns-2 Inv-loop μ-loop
-returns-2 c = (
-  inr (dead-then _ _ _ _ (c .before .before .before .before .before .before .before .before .before .before .loop .inv .1) (pass-dead _ _ _ _ _ (c .before .before .before .before .before .before .before .before .sweep-all .ensures) (c .before .before .before .before .enum-told .given .1))),
-  c .before .before .clear2 .ensures ∙ ap (λ (k : ℕ). replicate k 0) (c .before .before .before .before .before .before .before .before .sweep-all .kept .1 .0 ∙ c .before .before .before .before .before .before .before .before .before .before .loop .inv .0 ∙ c .before .before .before .before .before .before .before .before .before .before .before .before .before .before .before .pre .1 .long),
-)
+returns-2 c =
+    let s = c .before .before .before .before .before .before .before .before .before .before .before .before .before .before .before in
+    let L = c .before .before .before .before .before .before .before .before .before .before .loop in
+    let sweep-all = c .before .before .before .before .before .before .before .before .sweep-all in
+    let enum-told = c .before .before .before .before .enum-told in
+    let clear2 = c .before .before .clear2 in (
+      inr (dead-then _ _ _ _ (L .inv .1) (pass-dead _ _ _ _ _ (sweep-all .ensures) (enum-told .given .1))),
+      clear2 .ensures ∙ ap (λ (k : ℕ). replicate k 0) (sweep-all .kept .1 .0 ∙ L .inv .0 ∙ s .pre .1 .long),
+    )
 
 same-length-3 : tie.Need-same-length-3 Inv-loop μ-loop
 same-length-3 c = search needs
 
 returns-3 : tie.Need-returns-3 Inv-loop μ-loop
 returns-3 c =
-    let h = pass-moved _ _ _ _ _ _ (c .before .before .before .before .before .before .sweep-all .ensures) (c .before .before .one .given .1) in
-    (sym (c .before .before .before .before .before .before .before .before .before .before .some-empty .ensures) ∙ c .before .before .before .before .before .before .before .before .before .if1 .left, cuts-trans _ _ _ _ (c .before .before .before .before .before .before .before .before .loop .inv .1) (h .cuts), all-still _ _ _ _ (not-true _ (c .if2 .taken)) h)
+    let some-empty = c .before .before .before .before .before .before .before .before .before .before .some-empty in
+    let if1 = c .before .before .before .before .before .before .before .before .before .if1 in
+    let L = c .before .before .before .before .before .before .before .before .loop in
+    let sweep-all = c .before .before .before .before .before .before .sweep-all in
+    let one = c .before .before .one in
+    let h = pass-moved _ _ _ _ _ _ (sweep-all .ensures) (one .given .1) in
+    (sym (some-empty .ensures) ∙ if1 .left, cuts-trans _ _ _ _ (L .inv .1) (h .cuts), all-still _ _ _ _ (not-true _ (c .if2 .taken)) h)
 
 loop-less : tie.Need-loop-less Inv-loop μ-loop
 loop-less c = (pass-moved _ _ _ _ _ _ (c .before .before .before .before .before .before .sweep-all .ensures) (c .before .before .one .given .1)) .moved (not-false _ (c .if2 .left))
 
 loop-again : tie.Need-loop-again Inv-loop μ-loop
-loop-again c = let h = pass-moved _ _ _ _ _ _ (c .before .before .before .before .before .before .sweep-all .ensures) (c .before .before .one .given .1) in (search needs, cuts-trans _ _ _ _ (c .before .before .before .before .before .before .before .before .loop .inv .1) (h .cuts))
+loop-again c =
+    let L = c .before .before .before .before .before .before .before .before .loop in
+    let sweep-all = c .before .before .before .before .before .before .sweep-all in
+    let one = c .before .before .one in
+    let h = pass-moved _ _ _ _ _ _ (sweep-all .ensures) (one .given .1) in (search needs, cuts-trans _ _ _ _ (L .inv .1) (h .cuts))
 
 pub sweep-accepted-spec : {M : Type 1} → statement M
 sweep-accepted-spec =

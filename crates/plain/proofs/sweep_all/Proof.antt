@@ -35,7 +35,10 @@ same-length : tie.Need-same-length Inv-loop μ-loop
 same-length c = search needs
 
 returns : tie.Need-returns Inv-loop μ-loop
-returns c = dead-then _ _ _ _ (c .before .before .before .before .before .before .before .loop .inv .2 .cuts) (pass-dead _ _ _ _ _ (c .before .before .before .before .sweep-row .ensures) (c .enum-told .given .1))
+returns c =
+    let L = c .before .before .before .before .before .before .before .loop in
+    let sweep-row = c .before .before .before .before .sweep-row in
+    dead-then _ _ _ _ (L .inv .2 .cuts) (pass-dead _ _ _ _ _ (sweep-row .ensures) (c .enum-told .given .1))
 
 either-requires : tie.Need-either-requires Inv-loop μ-loop
 either-requires c κs = search needs
@@ -48,8 +51,12 @@ loop-less c = search needs
 
 loop-again : tie.Need-loop-again Inv-loop μ-loop
 loop-again c =
-    let h = pass-moved _ _ _ _ _ _ (c .before .before .before .before .before .before .sweep-row .ensures) (c .before .before .one .given .1) in
-    (search needs, search needs, rw (c .either .ensures) (all-next _ _ _ _ _ _ (c .before .before .before .before .before .before .before .before .before .before .before .pre .1) _ (c .before .before .before .before .before .before .before .before .before .loop .inv .2) h))
+    let s = c .before .before .before .before .before .before .before .before .before .before .before in
+    let L = c .before .before .before .before .before .before .before .before .before .loop in
+    let sweep-row = c .before .before .before .before .before .before .sweep-row in
+    let one = c .before .before .one in
+    let h = pass-moved _ _ _ _ _ _ (sweep-row .ensures) (one .given .1) in
+    (search needs, search needs, rw (c .either .ensures) (all-next _ _ _ _ _ _ (s .pre .1) _ (L .inv .2) h))
 
 same-length-2 : tie.Need-same-length-2 Inv-loop μ-loop
 same-length-2 c = search needs

@@ -38,7 +38,10 @@ same-length : tie.Need-same-length Inv-loop μ-loop
 same-length c = search needs
 
 returns : tie.Need-returns Inv-loop μ-loop
-returns c = dead-then _ _ _ _ (c .before .before .before .before .before .before .before .loop .inv .3 .cuts) (pass-dead _ _ _ _ _ (c .before .before .before .before .sweep-cell .ensures) (c .enum-told .given .1))
+returns c =
+    let L = c .before .before .before .before .before .before .before .loop in
+    let sweep-cell = c .before .before .before .before .sweep-cell in
+    dead-then _ _ _ _ (L .inv .3 .cuts) (pass-dead _ _ _ _ _ (sweep-cell .ensures) (c .enum-told .given .1))
 
 either-requires : tie.Need-either-requires Inv-loop μ-loop
 either-requires c κs = search needs
@@ -51,8 +54,12 @@ loop-less c = search needs
 
 loop-again : tie.Need-loop-again Inv-loop μ-loop
 loop-again c =
-    let h = pass-moved _ _ _ _ _ _ (c .before .before .before .before .before .before .sweep-cell .ensures) (c .before .before .one .given .1) in
-    (search needs, search needs, search needs, rw (c .either .ensures) (row-next _ _ _ _ _ _ (c .before .before .before .before .before .before .before .before .before .before .before .pre .2) _ _ (c .before .before .before .before .before .before .before .before .before .loop .inv .3) h))
+    let s = c .before .before .before .before .before .before .before .before .before .before .before in
+    let L = c .before .before .before .before .before .before .before .before .before .loop in
+    let sweep-cell = c .before .before .before .before .before .before .sweep-cell in
+    let one = c .before .before .one in
+    let h = pass-moved _ _ _ _ _ _ (sweep-cell .ensures) (one .given .1) in
+    (search needs, search needs, search needs, rw (c .either .ensures) (row-next _ _ _ _ _ _ (s .pre .2) _ _ (L .inv .3) h))
 
 same-length-2 : tie.Need-same-length-2 Inv-loop μ-loop
 same-length-2 c = search needs

@@ -46,20 +46,37 @@ same-length-2 c = search needs
 
 returns-2 : tie.Need-returns-2
 returns-2 c =
-    shows-contradiction _ _ _ _ (rule-ran _ _ _ _ (c .before .before .before .before .before .before .before .before .before .before .before .before .before .before .before .before .before .some-empty .ensures) (c .before .before .before .before .before .before .before .before .before .before .before .before .before .before .before .before .if1 .left) _ (c .before .before .before .before .before .before .before .before .before .before .before .before .before .all-waiting .ensures .1) _ _ _ (c .before .before .before .before .before .before .before .before .before .takes .ensures) (c .before .before .before .before .before .end .given .1))
-    (c .before .before .clear2 .ensures ∙ ap (λ (k : ℕ). replicate k 0) (c .before .before .before .before .before .before .before .before .before .takes .kept .1 .0 ∙ c .before .before .before .before .before .before .before .before .before .before .before .before .before .before .before .before .before .before .before .before .pre .1 .long))
+    let s = c .before .before .before .before .before .before .before .before .before .before .before .before .before .before .before .before .before .before .before .before in
+    let some-empty = c .before .before .before .before .before .before .before .before .before .before .before .before .before .before .before .before .before .some-empty in
+    let if1 = c .before .before .before .before .before .before .before .before .before .before .before .before .before .before .before .before .if1 in
+    let all-waiting = c .before .before .before .before .before .before .before .before .before .before .before .before .before .all-waiting in
+    let takes = c .before .before .before .before .before .before .before .before .before .takes in
+    let end = c .before .before .before .before .before .end in
+    let clear2 = c .before .before .clear2 in
+    shows-contradiction _ _ _ _ (rule-ran _ _ _ _ (some-empty .ensures) (if1 .left) _ (all-waiting .ensures .1) _ _ _ (takes .ensures) (end .given .1))
+    (clear2 .ensures ∙ ap (λ (k : ℕ). replicate k 0) (takes .kept .1 .0 ∙ s .pre .1 .long))
 
 same-length-3 : tie.Need-same-length-3
 same-length-3 c = search needs
 
 returns-3 : tie.Need-returns-3
-returns-3 c = shows-closed _ _ _ _ (rule-ran _ _ _ _ (c .before .before .before .before .before .before .before .before .before .before .before .before .before .some-empty .ensures) (c .before .before .before .before .before .before .before .before .before .before .before .before .if1 .left) _ (c .before .before .before .before .before .before .before .before .before .all-waiting .ensures .1) _ _ _ (c .before .before .before .before .before .takes .ensures) (c .before .end2 .given .1))
+returns-3 c =
+    let some-empty = c .before .before .before .before .before .before .before .before .before .before .before .before .before .some-empty in
+    let if1 = c .before .before .before .before .before .before .before .before .before .before .before .before .if1 in
+    let all-waiting = c .before .before .before .before .before .before .before .before .before .all-waiting in
+    let takes = c .before .before .before .before .before .takes in
+    shows-closed _ _ _ _ (rule-ran _ _ _ _ (some-empty .ensures) (if1 .left) _ (all-waiting .ensures .1) _ _ _ (takes .ensures) (c .before .end2 .given .1))
 
 same-length-4 : tie.Need-same-length-4
 same-length-4 c = search needs
 
 returns-4 : tie.Need-returns-4
-returns-4 c = shows-paused _ _ _ _ (rule-ran _ _ _ _ (c .before .before .before .before .before .before .before .before .before .before .before .before .before .some-empty .ensures) (c .before .before .before .before .before .before .before .before .before .before .before .before .if1 .left) _ (c .before .before .before .before .before .before .before .before .before .all-waiting .ensures .1) _ _ _ (c .before .before .before .before .before .takes .ensures) (c .before .end3 .given .1))
+returns-4 c =
+    let some-empty = c .before .before .before .before .before .before .before .before .before .before .before .before .before .some-empty in
+    let if1 = c .before .before .before .before .before .before .before .before .before .before .before .before .if1 in
+    let all-waiting = c .before .before .before .before .before .before .before .before .before .all-waiting in
+    let takes = c .before .before .before .before .before .takes in
+    shows-paused _ _ _ _ (rule-ran _ _ _ _ (some-empty .ensures) (if1 .left) _ (all-waiting .ensures .1) _ _ _ (takes .ensures) (c .before .end3 .given .1))
 
 pub close-accepted-spec : {M : Type 1} → statement M
 close-accepted-spec =

@@ -28,7 +28,10 @@ add-join : tie.Need-add-join Inv-loop μ-loop
 add-join c = omega (arith, c .before .before .before .before .pre .0)
 
 join-requires : tie.Need-join-requires Inv-loop μ-loop
-join-requires c κs = (c .before .before .before .before .pre .0, (omega (arith, c .before .before .before .before .pre .0, c .before .before .before .loop .inv), omega (arith, c .before .before .before .before .pre .0, c .before .before .before .loop .inv)), c .before .before .before .loop .inv .2)
+join-requires c κs =
+    let s = c .before .before .before .before in
+    let L = c .before .before .before .loop in
+    (s .pre .0, (omega (arith, s .pre .0, L .inv), omega (arith, s .pre .0, L .inv)), L .inv .2)
 
 add-j-2 : tie.Need-add-j-2 Inv-loop μ-loop
 add-j-2 c = search needs

@@ -21,21 +21,35 @@ lowest-requires c κs = search needs
 
 compose-row-requires : tie.Need-compose-row-requires Inv-loop μ-loop
 unfolding table
-compose-row-requires c κs = ((next-of (c .before .before .before .loop .left) (c .before .lowest .result) (c .before .before .loop-test .taken) (c .before .before .before .loop .inv .left-lt) (c .before .lowest .ensures)) .small, refl)
+compose-row-requires c κs =
+    let L = c .before .before .before .loop in
+    let loop-test = c .before .before .loop-test in
+    let lowest = c .before .lowest in
+    ((next-of (L .left) (lowest .result) (loop-test .taken) (L .inv .left-lt) (lowest .ensures)) .small, refl)
 
 without-lowest-requires : tie.Need-without-lowest-requires Inv-loop μ-loop
 without-lowest-requires c κs = search needs
 
 loop-less : tie.Need-loop-less Inv-loop μ-loop
-loop-less c = let n = next-of (c .before .before .before .before .before .loop .left) (c .before .before .before .lowest .result) (c .before .before .before .before .loop-test .taken) (c .before .before .before .before .before .loop .inv .left-lt) (c .before .before .before .lowest .ensures) in rw (c .without-lowest .ensures) (n .less)
+loop-less c =
+    let L = c .before .before .before .before .before .loop in
+    let loop-test = c .before .before .before .before .loop-test in
+    let lowest = c .before .before .before .lowest in
+    let n = next-of (L .left) (lowest .result) (loop-test .taken) (L .inv .left-lt) (lowest .ensures) in rw (c .without-lowest .ensures) (n .less)
 
 loop-again : tie.Need-loop-again Inv-loop μ-loop
 loop-again c =
-    let b = c .before .before .before .before .before .before .args .b in
-    let r = c .before .before .before .lowest .result in
-    let n = next-of (c .before .before .before .before .before .loop .left) (c .before .before .before .lowest .result) (c .before .before .before .before .loop-test .taken) (c .before .before .before .before .before .loop .inv .left-lt) (c .before .before .before .lowest .ensures) in
-    gathers-turn (λ r. composeRow r b) (c .before .before .before .before .before .before .args .a) (c .before .before .before .before .before .loop .out) (c .before .before .before .before .before .loop .left) r (c .before .compose-row .result) (c .without-lowest .result)
-    (row-lt r b) n (c .before .before .before .before .before .loop .inv) (c .before .compose-row .ensures) (c .without-lowest .ensures)
+    let s = c .before .before .before .before .before .before in
+    let L = c .before .before .before .before .before .loop in
+    let loop-test = c .before .before .before .before .loop-test in
+    let lowest = c .before .before .before .lowest in
+    let compose-row = c .before .compose-row in
+    let without-lowest = c .without-lowest in
+    let b = s .args .b in
+    let r = lowest .result in
+    let n = next-of (L .left) (lowest .result) (loop-test .taken) (L .inv .left-lt) (lowest .ensures) in
+    gathers-turn (λ r. composeRow r b) (s .args .a) (L .out) (L .left) r (compose-row .result) (without-lowest .result)
+    (row-lt r b) n (L .inv) (compose-row .ensures) (without-lowest .ensures)
 
 returns : tie.Need-returns Inv-loop μ-loop
 unfolding compose

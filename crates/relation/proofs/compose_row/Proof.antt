@@ -34,16 +34,25 @@ without-lowest-requires : tie.Need-without-lowest-requires Inv-loop μ-loop
 without-lowest-requires c κs = search needs
 
 loop-less : tie.Need-loop-less Inv-loop μ-loop
-loop-less c = let n = next-of (c .before .before .before .before .loop .left) (c .before .before .lowest .result) (c .before .before .before .loop-test .taken) (c .before .before .before .before .loop .inv .left-lt) (c .before .before .lowest .ensures) in rw (c .without-lowest .ensures) (n .less)
+loop-less c =
+    let L = c .before .before .before .before .loop in
+    let loop-test = c .before .before .before .loop-test in
+    let lowest = c .before .before .lowest in
+    let n = next-of (L .left) (lowest .result) (loop-test .taken) (L .inv .left-lt) (lowest .ensures) in rw (c .without-lowest .ensures) (n .less)
 
 loop-again : tie.Need-loop-again Inv-loop μ-loop
 loop-again c =
-    let r = c .before .before .before .before .before .args .r in
-    let s = c .before .before .lowest .result in
-    let n = next-of (c .before .before .before .before .loop .left) (c .before .before .lowest .result) (c .before .before .before .loop-test .taken) (c .before .before .before .before .loop .inv .left-lt) (c .before .before .lowest .ensures) in
-    gathers-turn (entry r) (c .before .before .before .before .before .args .b) (c .before .before .before .before .loop .out) (c .before .before .before .before .loop .left) s _ (c .without-lowest .result)
-    (entry-lt r s (c .before .before .before .before .before .pre .0) (n .small)) n (c .before .before .before .before .loop .inv)
-    (entry-read (c .before .before .before .before .before .args .t .now) r s (c .before .before .before .before .before .pre .1)) (c .without-lowest .ensures)
+    let start = c .before .before .before .before .before in
+    let L = c .before .before .before .before .loop in
+    let loop-test = c .before .before .before .loop-test in
+    let lowest = c .before .before .lowest in
+    let without-lowest = c .without-lowest in
+    let r = start .args .r in
+    let s = lowest .result in
+    let n = next-of (L .left) (lowest .result) (loop-test .taken) (L .inv .left-lt) (lowest .ensures) in
+    gathers-turn (entry r) (start .args .b) (L .out) (L .left) s _ (without-lowest .result)
+    (entry-lt r s (start .pre .0) (n .small)) n (L .inv)
+    (entry-read (start .args .t .now) r s (start .pre .1)) (without-lowest .ensures)
 
 returns : tie.Need-returns Inv-loop μ-loop
 unfolding composeRow

@@ -62,22 +62,32 @@ look-slice-aggregate-settled : (t : ℕ) → look-lts.Need-slice-aggregate-settl
 look-slice-aggregate-settled t c = search needs
 
 look-settled-requires : (t : ℕ) → look-lts.Need-settled-requires (claims t) (look-at t) look.Post look-Inv-loop look-μ-loop
-look-settled-requires t c κs = (record { few = c .before .before .before .pre .1 .1 .few; fits = let e : length (c .before .before .before .args .t6) ≡ 1024 = search needs in omega (arith, square _ (c .before .before .before .pre .1 .1 .few) .1) }, search needs)
+look-settled-requires t c κs =
+    let s = c .before .before .before in
+    (record { few = s .pre .1 .1 .few; fits = let e : length (s .args .t6) ≡ 1024 = search needs in omega (arith, square _ (s .pre .1 .1 .few) .1) }, search needs)
 
 look-same-length : (t : ℕ) → look-lts.Need-same-length (claims t) (look-at t) look.Post look-Inv-loop look-μ-loop
 look-same-length t c = search needs
 
 look-returns : (t : ℕ) → look-lts.Need-returns (claims t) (look-at t) look.Post look-Inv-loop look-μ-loop
-look-returns t c = look-end _ _ _ _ _ _ _ _ (c .before .before .before .before .before .pre .1 .1 .count ∙ c .before .before .before .before .if1 .taken) (c .before .before .before .before .before .pre .1 .2) (c .before .settled .ensures)
+look-returns t c =
+    let s = c .before .before .before .before .before in
+    let if1 = c .before .before .before .before .if1 in
+    look-end _ _ _ _ _ _ _ _ (s .pre .1 .1 .count ∙ if1 .taken) (s .pre .1 .2) (c .before .settled .ensures)
 
 look-slice-aggregate-get : (t : ℕ) → look-lts.Need-slice-aggregate-get (claims t) (look-at t) look.Post look-Inv-loop look-μ-loop
 look-slice-aggregate-get t c = search needs
 
 look-get-requires : (t : ℕ) → look-lts.Need-get-requires (claims t) (look-at t) look.Post look-Inv-loop look-μ-loop
-look-get-requires t c κs = let w = in-grid _ _ _ _ (c .before .before .pre .1 .1) (c .before .if1 .left) in (c .before .before .pre .1 .1 .few, w .0, w .1, let e : length (c .before .before .args .t6) ≡ 1024 = search needs in omega (arith, square _ (c .before .before .pre .1 .1 .few) .1))
+look-get-requires t c κs =
+    let s = c .before .before in
+    let w = in-grid _ _ _ _ (s .pre .1 .1) (c .before .if1 .left) in (s .pre .1 .1 .few, w .0, w .1, let e : length (s .args .t6) ≡ 1024 = search needs in omega (arith, square _ (s .pre .1 .1 .few) .1))
 
 look-after-requires : (t : ℕ) → look-lts.Need-after-requires (claims t) (look-at t) look.Post look-Inv-loop look-μ-loop
-look-after-requires t c κs = let w = in-grid _ _ _ _ (c .before .before .before .pre .1 .1) (c .before .before .if1 .left) in (c .before .before .before .pre .1 .1 .few, c .before .before .before .pre .1 .1 .upper, w .1)
+look-after-requires t c κs =
+    let s = c .before .before .before in
+    let if1 = c .before .before .if1 in
+    let w = in-grid _ _ _ _ (s .pre .1 .1) (if1 .left) in (s .pre .1 .1 .few, s .pre .1 .1 .upper, w .1)
 
 look-loop-holds : (t : ℕ) → look-lts.Need-loop-holds (claims t) (look-at t) look.Post look-Inv-loop look-μ-loop
 look-loop-holds t c = (search needs, search needs, refl, look-start _ _ _ _ _ _ _ (c .after .ensures .pairs))
@@ -90,8 +100,14 @@ look-same-length-2 t c = search needs
 
 look-returns-2 : (t : ℕ) → look-lts.Need-returns-2 (claims t) (look-at t) look.Post look-Inv-loop look-μ-loop
 look-returns-2 t c =
-    shows-gave-up _ _ _ _ _ _ (sym (c .before .before .before .before .loop .inv .3) ∙ from-spent _ _ _ _ _ _ _ _ (c .before .before .before .loop-test .taken) (let w = in-grid _ _ _ _ (c .before .before .before .before .before .before .before .before .before .pre .1 .1) (c .before .before .before .before .before .before .before .before .if1 .left) in there-is _ _ _ _ _ _ _ _ (w .0) (w .1) (c .before .before .before .before .before .before .get .ensures) (c .before .before .is-in .ensures) (c .before .if2 .taken)) (c .if3 .taken))
-    (c .before .before .before .before .loop .inv .2) (c .before .before .before .before .loop .inv .1)
+    let s = c .before .before .before .before .before .before .before .before .before in
+    let if1 = c .before .before .before .before .before .before .before .before .if1 in
+    let get = c .before .before .before .before .before .before .get in
+    let L = c .before .before .before .before .loop in
+    let loop-test = c .before .before .before .loop-test in
+    let is-in = c .before .before .is-in in
+    shows-gave-up _ _ _ _ _ _ (sym (L .inv .3) ∙ from-spent _ _ _ _ _ _ _ _ (loop-test .taken) (let w = in-grid _ _ _ _ (s .pre .1 .1) (if1 .left) in there-is _ _ _ _ _ _ _ _ (w .0) (w .1) (get .ensures) (is-in .ensures) (c .before .if2 .taken)) (c .if3 .taken))
+    (L .inv .2) (L .inv .1)
 
 look-add-used : (t : ℕ) → look-lts.Need-add-used (claims t) (look-at t) look.Post look-Inv-loop look-μ-loop
 look-add-used t c = search needs
@@ -116,13 +132,22 @@ look-loop-less : (t : ℕ) → look-lts.Need-loop-less (claims t) (look-at t) lo
 look-loop-less t c = search needs
 
 look-loop-again : (t : ℕ) → look-lts.Need-loop-again (claims t) (look-at t) look.Post look-Inv-loop look-μ-loop
-look-loop-again t c = (
-  search needs,
-  search needs,
-  c .before .before .before .before .before .before .before .before .loop .inv .2,
-  sym (turn-emptied _ _ _ _ _ (take (c .before .before .before .before .before .before .before .before .before .before .before .before .before .args .n * c .before .before .before .before .before .before .before .before .before .before .before .before .before .args .n) (c .before .before .attempt-in .last .1 .0)) _ _ (c .before .before .attempt-in .result) (c .before .before .before .before .before .before .before .loop-test .taken) (let w = in-grid _ _ _ _ (c .before .before .before .before .before .before .before .before .before .before .before .before .before .pre .1 .1) (c .before .before .before .before .before .before .before .before .before .before .before .before .if1 .left) in there-is _ _ _ _ _ _ _ _ (w .0) (w .1) (c .before .before .before .before .before .before .before .before .before .before .get .ensures) (c .before .before .before .before .before .before .is-in .ensures) (c .before .before .before .before .before .if2 .taken)) (c .before .before .before .before .if3 .left) (c .before .before .attempt-in .ensures) (c .match .keys2))
-      ∙ c .before .before .before .before .before .before .before .before .loop .inv .3,
-)
+look-loop-again t c =
+    let s = c .before .before .before .before .before .before .before .before .before .before .before .before .before in
+    let if1 = c .before .before .before .before .before .before .before .before .before .before .before .before .if1 in
+    let get = c .before .before .before .before .before .before .before .before .before .before .get in
+    let L = c .before .before .before .before .before .before .before .before .loop in
+    let loop-test = c .before .before .before .before .before .before .before .loop-test in
+    let is-in = c .before .before .before .before .before .before .is-in in
+    let if2 = c .before .before .before .before .before .if2 in
+    let if3 = c .before .before .before .before .if3 in
+    let attempt-in = c .before .before .attempt-in in (
+      search needs,
+      search needs,
+      L .inv .2,
+      sym (turn-emptied _ _ _ _ _ (take (s .args .n * s .args .n) (attempt-in .last .1 .0)) _ _ (attempt-in .result) (loop-test .taken) (let w = in-grid _ _ _ _ (s .pre .1 .1) (if1 .left) in there-is _ _ _ _ _ _ _ _ (w .0) (w .1) (get .ensures) (is-in .ensures) (if2 .taken)) (if3 .left) (attempt-in .ensures) (c .match .keys2))
+          ∙ L .inv .3,
+    )
 
 look-sub-look : (t : ℕ) → look-lts.Need-sub-look (claims t) (look-at t) look.Post look-Inv-loop look-μ-loop
 look-sub-look t c = search needs
@@ -152,12 +177,26 @@ look-enum-told : (t : ℕ) → look-lts.Need-enum-told (claims t) (look-at t) lo
 look-enum-told t c = search needs
 
 look-same-length-3 : (t : ℕ) → look-lts.Need-same-length-3 (claims t) (look-at t) look.Post look-Inv-loop look-μ-loop
-look-same-length-3 t c = c .before .before .look .kept .1 .1 .1 .1 .1 .1 .1 .1 .0 ∙ ap length (c .before .before .before .before .before .before .before .before .before .before .before .before .before .before .loop .inv .2)
+look-same-length-3 t c =
+    let L = c .before .before .before .before .before .before .before .before .before .before .before .before .before .before .loop in
+    let look = c .before .before .look in
+    look .kept .1 .1 .1 .1 .1 .1 .1 .1 .0 ∙ ap length (L .inv .2)
 
 look-returns-3 : (t : ℕ) → look-lts.Need-returns-3 (claims t) (look-at t) look.Post look-Inv-loop look-μ-loop
 look-returns-3 t c =
-    turn-kept _ _ _ _ _ _ _ _ _ (c .before .before .before .before .before .before .before .before .before .before .before .before .before .loop-test .taken) (let w = in-grid _ _ _ _ (c .before .before .before .before .before .before .before .before .before .before .before .before .before .before .before .before .before .before .before .pre .1 .1) (c .before .before .before .before .before .before .before .before .before .before .before .before .before .before .before .before .before .before .if1 .left) in there-is _ _ _ _ _ _ _ _ (w .0) (w .1) (c .before .before .before .before .before .before .before .before .before .before .before .before .before .before .before .before .get .ensures) (c .before .before .before .before .before .before .before .before .before .before .before .before .is-in .ensures) (c .before .before .before .before .before .before .before .before .before .before .before .if2 .taken)) (c .before .before .before .before .before .before .before .before .before .before .if3 .left) (c .before .before .before .before .before .before .before .before .attempt-in .ensures)
-    _ _ _ _ (c .before .before .before .before .before .answer .given .1) (c .before .before .look .ensures) (c .match2 .keys2) _ _ (c .before .before .before .before .before .before .before .before .before .before .before .before .before .before .loop .inv .3) (c .before .before .before .before .before .before .before .before .before .before .before .before .before .before .loop .inv .2)
+    let s = c .before .before .before .before .before .before .before .before .before .before .before .before .before .before .before .before .before .before .before in
+    let if1 = c .before .before .before .before .before .before .before .before .before .before .before .before .before .before .before .before .before .before .if1 in
+    let get = c .before .before .before .before .before .before .before .before .before .before .before .before .before .before .before .before .get in
+    let L = c .before .before .before .before .before .before .before .before .before .before .before .before .before .before .loop in
+    let loop-test = c .before .before .before .before .before .before .before .before .before .before .before .before .before .loop-test in
+    let is-in = c .before .before .before .before .before .before .before .before .before .before .before .before .is-in in
+    let if2 = c .before .before .before .before .before .before .before .before .before .before .before .if2 in
+    let if3 = c .before .before .before .before .before .before .before .before .before .before .if3 in
+    let attempt-in = c .before .before .before .before .before .before .before .before .attempt-in in
+    let answer = c .before .before .before .before .before .answer in
+    let look = c .before .before .look in
+    turn-kept _ _ _ _ _ _ _ _ _ (loop-test .taken) (let w = in-grid _ _ _ _ (s .pre .1 .1) (if1 .left) in there-is _ _ _ _ _ _ _ _ (w .0) (w .1) (get .ensures) (is-in .ensures) (if2 .taken)) (if3 .left) (attempt-in .ensures)
+    _ _ _ _ (answer .given .1) (look .ensures) (c .match2 .keys2) _ _ (L .inv .3) (L .inv .2)
 
 look-add-r-2 : (t : ℕ) → look-lts.Need-add-r-2 (claims t) (look-at t) look.Post look-Inv-loop look-μ-loop
 look-add-r-2 t c = search needs
@@ -167,18 +206,24 @@ look-loop-less-2 t c = search needs
 
 look-loop-again-2 : (t : ℕ) → look-lts.Need-loop-again-2 (claims t) (look-at t) look.Post look-Inv-loop look-μ-loop
 look-loop-again-2 t c =
-    let at = c .before .before .before .loop in
-    let in-cell = in-grid _ _ _ _ (c .before .before .before .before .before .before .before .before .pre .1 .1) (c .before .before .before .before .before .before .before .if1 .left) in
+    let s = c .before .before .before .before .before .before .before .before in
+    let if1 = c .before .before .before .before .before .before .before .if1 in
+    let get = c .before .before .before .before .before .get in
+    let L = c .before .before .before .loop in
+    let loop-test = c .before .before .loop-test in
+    let is-in = c .before .is-in in
+    let at = L in
+    let in-cell = in-grid _ _ _ _ (s .pre .1 .1) (if1 .left) in
     ⊎-elim
     (λ w.
-    let turn = turn-none _ _ _ _ _ _ _ _ _ (c .before .before .loop-test .taken) (there-is _ _ _ _ _ _ _ _ (in-cell .0) (in-cell .1) (c .before .before .before .before .before .get .ensures) (c .before .is-in .ensures) (w .0 .taken))
+    let turn = turn-none _ _ _ _ _ _ _ _ _ (loop-test .taken) (there-is _ _ _ _ _ _ _ _ (in-cell .0) (in-cell .1) (get .ensures) (is-in .ensures) (w .0 .taken))
     (w .1 .left) (w .3 .ensures) _ _ _ _ (w .6 .given .1) (w .9 .ensures) (w .12 .given .1) _ (w .14) in
     (search needs, omega (arith, w .9 .ensures .within, w .14), w .13 ∙ turn .1 ∙ at .inv .2, sym (turn .0) ∙ at .inv .3))
     (λ w. (
       search needs,
       omega (arith, w .2, at .inv .1),
       w .1 ∙ at .inv .2,
-      sym (from-past _ _ _ _ _ _ _ _ _ (c .before .before .loop-test .taken) (there-is _ _ _ _ _ _ _ _ (in-cell .0) (in-cell .1) (c .before .before .before .before .before .get .ensures) (c .before .is-in .ensures) (w .0 .left)) (w .2)) ∙ at .inv .3,
+      sym (from-past _ _ _ _ _ _ _ _ _ (loop-test .taken) (there-is _ _ _ _ _ _ _ _ (in-cell .0) (in-cell .1) (get .ensures) (is-in .ensures) (w .0 .left)) (w .2)) ∙ at .inv .3,
     ))
     (c .if2 .came)
 

@@ -30,8 +30,10 @@ same-length c = search needs
 
 returns : tie.Need-returns
 returns c =
-    ap (λ (l : List ℕ). triedBy (ended (c .before .before .attempt .result) l)) (take-at _ _ _ (c .before .before .attempt .kept .1 .0 ∙ length-take-le _ _ (c .before .before .before .before .before .pre .1 .fits)))
-    ∙ c .before .before .attempt .ensures
+    let s = c .before .before .before .before .before in
+    let attempt = c .before .before .attempt in
+    ap (λ (l : List ℕ). triedBy (ended (attempt .result) l)) (take-at _ _ _ (attempt .kept .1 .0 ∙ length-take-le _ _ (s .pre .1 .fits)))
+    ∙ attempt .ensures
 
 pub attempt-in-spec : {M : Type 1} → statement M
 attempt-in-spec =

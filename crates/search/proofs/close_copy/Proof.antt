@@ -28,23 +28,30 @@ slice-aggregate-close-all : tie.Need-slice-aggregate-close-all
 slice-aggregate-close-all c = sym (length-take-le _ _ (omega (arith, c .before .before .before .copy .kept .0, c .before .before .before .before .before .before .before .pre .2 .fits)))
 
 close-all-requires : tie.Need-close-all-requires
-close-all-requires c κs = (c .before .before .before .before .before .before .before .pre .0, record { few = c .before .before .before .before .before .before .before .pre .2 .few; fits = let e = length-take-le (c .before .before .before .before .before .before .before .args .n * c .before .before .before .before .before .before .before .args .n) (c .before .before .before .copy .last .0) (omega (arith, c .before .before .before .copy .kept .0, c .before .before .before .before .before .before .before .pre .2 .fits)) in omega arith })
+close-all-requires c κs =
+    let s = c .before .before .before .before .before .before .before in
+    let copy = c .before .before .before .copy in
+    (s .pre .0, record { few = s .pre .2 .few; fits = let e = length-take-le (s .args .n * s .args .n) (copy .last .0) (omega (arith, copy .kept .0, s .pre .2 .fits)) in omega arith })
 
 same-length : tie.Need-same-length
 same-length c = search needs
 
 returns : tie.Need-returns
 returns c =
-    let s = c .before .before .before .before .before .before .before .before .before .before in
+    let start = c .before .before .before .before .before .before .before .before .before .before in
+    let before = c .before .before .before .before .before .before .before .before .before .before in
+    let copy = c .before .before .before .before .before .before .copy in
+    let close-all = c .before .before .close-all in
+    let s = before in
     let m = s .args .n * s .args .n in
     let g = s .args .g .now in
-    let copied = c .before .before .before .before .before .before .copy .last .0 in
-    let fits : m ≤ length copied = omega (arith, c .before .before .before .before .before .before .copy .kept .0, c .before .before .before .before .before .before .before .before .before .before .pre .2 .fits) in
+    let copied = copy .last .0 in
+    let fits : m ≤ length copied = omega (arith, copy .kept .0, start .pre .2 .fits) in
     let same : take m copied ≡ g =
-    ap (take m) (c .before .before .before .before .before .before .copy .ensures) ∙ take-at (take m g) (drop m (s .args .work .now)) m (length-take-le m g (omega (arith, s .pre .1 .long)))
+    ap (take m) (copy .ensures) ∙ take-at (take m g) (drop m (s .args .work .now)) m (length-take-le m g (omega (arith, s .pre .1 .long)))
     ∙ take-all m g (omega (arith, s .pre .1 .long)) in
-    ap (λ (l : List ℕ). triedBy (ended (c .before .before .close-all .result) l)) (take-at _ _ _ (c .before .before .close-all .kept .1 .0 ∙ length-take-le m copied fits))
-    ∙ ap triedBy (c .before .before .close-all .ensures ∙ ap (λ (x : List ℕ). run allen (s .args .n) enough 0 x (allPairs (s .args .n))) same)
+    ap (λ (l : List ℕ). triedBy (ended (close-all .result) l)) (take-at _ _ _ (close-all .kept .1 .0 ∙ length-take-le m copied fits))
+    ∙ ap triedBy (close-all .ensures ∙ ap (λ (x : List ℕ). run allen (s .args .n) enough 0 x (allPairs (s .args .n))) same)
 
 pub close-copy-spec : {M : Type 1} → statement M
 close-copy-spec =

@@ -49,7 +49,8 @@ sub-left c = square _ (c .before .before .before .before .before .before .before
 
 look-requires : tie.Need-look-requires
 look-requires c κs =
-    let known = c .before .before .before in
+    let before = c .before .before .before in
+    let known = before in
     let closing = known .before .before .before in
     let test = closing .before .before .before .before .before in
     let s = test .before .before .before in

@@ -22,13 +22,23 @@ same-length : tie.Need-same-length
 same-length c = search needs
 
 returns : tie.Need-returns
-returns c = record { same = sym (cut-is _ _ _ _ _ _ _ _ _ _ (c .before .before .before .before .before .before .get .ensures) (c .before .before .before .before .get2 .ensures) (c .before .before .get3 .ensures) (c .before .compose-by-rows .ensures) ∙ shrunk-same _ _ _ _ _ _ _ _ (c .if1 .taken)); sound = c .before .before .before .before .before .before .before .before .before .pre .6 }
+returns c =
+    let s = c .before .before .before .before .before .before .before .before .before in
+    let get = c .before .before .before .before .before .before .get in
+    let get2 = c .before .before .before .before .get2 in
+    let get3 = c .before .before .get3 in
+    record { same = sym (cut-is _ _ _ _ _ _ _ _ _ _ (get .ensures) (get2 .ensures) (get3 .ensures) (c .before .compose-by-rows .ensures) ∙ shrunk-same _ _ _ _ _ _ _ _ (c .if1 .taken)); sound = s .pre .6 }
 
 same-length-2 : tie.Need-same-length-2
 same-length-2 c = search needs
 
 returns-2 : tie.Need-returns-2
-returns-2 c = record { same = sym (cut-is _ _ _ _ _ _ _ _ _ _ (c .before .before .before .before .before .before .before .get .ensures) (c .before .before .before .before .before .get2 .ensures) (c .before .before .before .get3 .ensures) (c .before .before .compose-by-rows .ensures) ∙ shrunk-dead _ _ _ _ _ _ _ _ (c .before .if1 .left) (c .if2 .taken)); sound = tt }
+returns-2 c =
+    let get = c .before .before .before .before .before .before .before .get in
+    let get2 = c .before .before .before .before .before .get2 in
+    let get3 = c .before .before .before .get3 in
+    let compose-by-rows = c .before .before .compose-by-rows in
+    record { same = sym (cut-is _ _ _ _ _ _ _ _ _ _ (get .ensures) (get2 .ensures) (get3 .ensures) (compose-by-rows .ensures) ∙ shrunk-dead _ _ _ _ _ _ _ _ (c .before .if1 .left) (c .if2 .taken)); sound = tt }
 
 write-cut-requires : tie.Need-write-cut-requires
 write-cut-requires c κs = search needs
@@ -38,9 +48,16 @@ same-length-3 c = search needs
 
 returns-3 : tie.Need-returns-3
 returns-3 c =
+    let get = c .before .before .before .before .before .before .before .before .before .before .before .before .before .get in
+    let get2 = c .before .before .before .before .before .before .before .before .before .before .before .get2 in
+    let get3 = c .before .before .before .before .before .before .before .before .before .get3 in
+    let compose-by-rows = c .before .before .before .before .before .before .before .before .compose-by-rows in
+    let if1 = c .before .before .before .before .before .before .before .if1 in
+    let if2 = c .before .before .before .before .before .before .if2 in
+    let write-cut = c .before .before .write-cut in
     record {
-      same = c .before .before .write-cut .ensures .0 ∙ sym (cut-is _ _ _ _ _ _ _ _ _ _ (c .before .before .before .before .before .before .before .before .before .before .before .before .before .get .ensures) (c .before .before .before .before .before .before .before .before .before .before .before .get2 .ensures) (c .before .before .before .before .before .before .before .before .before .get3 .ensures) (c .before .before .before .before .before .before .before .before .compose-by-rows .ensures) ∙ shrunk-written _ _ _ _ _ _ _ _ (c .before .before .before .before .before .before .before .if1 .left) (c .before .before .before .before .before .before .if2 .left));
-      sound = c .before .before .write-cut .ensures .1;
+      same = write-cut .ensures .0 ∙ sym (cut-is _ _ _ _ _ _ _ _ _ _ (get .ensures) (get2 .ensures) (get3 .ensures) (compose-by-rows .ensures) ∙ shrunk-written _ _ _ _ _ _ _ _ (if1 .left) (if2 .left));
+      sound = write-cut .ensures .1;
     }
 
 pub cut-cell-spec : {M : Type 1} → statement M

@@ -32,8 +32,10 @@ allows-requires-2 c κs = search needs
 
 returns-2 : tie.Need-returns-2
 returns-2 c e =
-    let f = c .before .before .before in
-    still-is _ _ _ _ _ _ _ _ _ _ (f .before .before .before .before .get .ensures) (f .before .before .before .get2 .ensures) (f .before .before .get3 .ensures) (c .before .before .get4 .ensures) (c .before .get5 .ensures)
+    let before = c .before .before .before in
+    let get4 = c .before .before .get4 in
+    let f = before in
+    still-is _ _ _ _ _ _ _ _ _ _ (f .before .before .before .before .get .ensures) (f .before .before .before .get2 .ensures) (f .before .before .get3 .ensures) (get4 .ensures) (c .before .get5 .ensures)
     (sym (f .before .allows .ensures) ∙ not-false _ (f .if1 .left)) (sym (c .allows2 .ensures) ∙ e)
 
 pub is-still-spec : {M : Type 1} → statement M

@@ -36,9 +36,10 @@ add-t13 c = search needs
 
 returns-2 : tie.Need-returns-2
 returns-2 c =
+    let if1 = c .if1 in
     let s = c .before .before in
     let e : s .args .p % 65536 ≡ s .args .p = omega arith in
-    rw e (join-waiting (s .args .n) (s .pre .0) (now (s .args .ring)) (now (s .args .flag)) (s .args .l .head) (s .args .l .len) (s .pre .2) (s .args .p) (s .pre .1) (c .if1 .left), joined (s .args .n) (s .pre .0) (now (s .args .ring)) (now (s .args .flag)) (s .args .l .head) (s .args .l .len) (s .pre .2) (s .args .p) (s .pre .1) (c .if1 .left))
+    rw e (join-waiting (s .args .n) (s .pre .0) (now (s .args .ring)) (now (s .args .flag)) (s .args .l .head) (s .args .l .len) (s .pre .2) (s .args .p) (s .pre .1) (if1 .left), joined (s .args .n) (s .pre .0) (now (s .args .ring)) (now (s .args .flag)) (s .args .l .head) (s .args .l .len) (s .pre .2) (s .args .p) (s .pre .1) (if1 .left))
 
 pub join-spec : {M : Type 1} → statement M
 join-spec =

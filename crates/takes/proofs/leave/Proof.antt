@@ -13,10 +13,14 @@ element-copy-out-p : tie.Need-element-copy-out-p
 element-copy-out-p c = search needs
 
 cast-p : tie.Need-cast-p
-cast-p c = omega (arith, c .before .pre .0, leaves _ (c .before .pre .0) (now (c .before .args .ring)) (now (c .before .args .flag)) (c .before .args .l .head) (c .before .args .l .len) (c .before .pre .1) (c .before .pre .2) .pair)
+cast-p c =
+    let s = c .before in
+    omega (arith, s .pre .0, leaves _ (s .pre .0) (now (s .args .ring)) (now (s .args .flag)) (s .args .l .head) (s .args .l .len) (s .pre .1) (s .pre .2) .pair)
 
 element-write-flag : tie.Need-element-write-flag
-element-write-flag c = omega (arith, c .before .pre .0, leaves _ (c .before .pre .0) (now (c .before .args .ring)) (now (c .before .args .flag)) (c .before .args .l .head) (c .before .args .l .len) (c .before .pre .1) (c .before .pre .2) .pair)
+element-write-flag c =
+    let s = c .before in
+    omega (arith, s .pre .0, leaves _ (s .pre .0) (now (s .args .ring)) (now (s .args .flag)) (s .args .l .head) (s .args .l .len) (s .pre .1) (s .pre .2) .pair)
 
 add-t8 : tie.Need-add-t8
 add-t8 c = search needs

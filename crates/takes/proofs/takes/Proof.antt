@@ -37,8 +37,10 @@ add-t c = search needs
 
 take-pair-requires : tie.Need-take-pair-requires Inv-loop μ-loop
 take-pair-requires c κs =
+    let s = c .before .before .before .before .before .before .before .before .before .before .before .before in
+    let L = c .before .before .before .before .before .before .before .before .before .before .loop in
     let e = c .before .before .before .before .leave .ensures in
-    (c .before .before .before .before .before .before .before .before .before .before .before .before .pre .0, omega (arith, e .pair), omega (arith, e .pair), omega (arith, e .pair), search needs, e .waiting)
+    (s .pre .0, omega (arith, e .pair), omega (arith, e .pair), omega (arith, e .pair), record { few = s .pre .1 .few; fits = omega (arith, s .pre .1 .fits, L .inv .1) }, e .waiting)
 
 enum-known-one : tie.Need-enum-known-one Inv-loop μ-loop
 enum-known-one c = search needs
@@ -51,20 +53,29 @@ same-length-2 c = search needs
 
 returns-2 : tie.Need-returns-2 Inv-loop μ-loop
 returns-2 c =
-    sym (rest-dead _ _ _ _ _ _ _ (omega (arith, c .before .before .before .before .before .before .before .before .before .before .before .before .before .before .before .loop .inv .0, c .before .before .before .before .before .before .before .before .before .before .before .before .if2 .left)) (is-dead _ _ _ _ _ _ (c .before .before .before .before .take-pair .ensures) (c .enum-told .given .1)))
-    ∙ sym (ap (rest _ _ _ _ _) (c .before .before .before .before .before .before .before .before .before .leave .ensures .was)) ∙ c .before .before .before .before .before .before .before .before .before .before .before .before .before .before .before .loop .inv .3
+    let L = c .before .before .before .before .before .before .before .before .before .before .before .before .before .before .before .loop in
+    let if2 = c .before .before .before .before .before .before .before .before .before .before .before .before .if2 in
+    let leave = c .before .before .before .before .before .before .before .before .before .leave in
+    let take-pair = c .before .before .before .before .take-pair in
+    sym (rest-dead _ _ _ _ _ _ _ (omega (arith, L .inv .0, if2 .left)) (is-dead _ _ _ _ _ _ (take-pair .ensures) (c .enum-told .given .1)))
+    ∙ sym (ap (rest _ _ _ _ _) (leave .ensures .was)) ∙ L .inv .3
 
 loop-less : tie.Need-loop-less Inv-loop μ-loop
 loop-less c = search needs
 
 loop-again : tie.Need-loop-again Inv-loop μ-loop
-loop-again c = (
-  omega (arith, c .before .before .before .before .before .before .before .before .before .before .before .before .before .before .before .before .loop .inv .0, c .before .before .before .before .before .before .before .before .before .before .before .before .before .if2 .left),
-  search needs,
-  is-sound _ _ _ _ _ _ (c .before .before .before .before .before .take-pair .ensures) _ (c .before .one .given .1),
-  sym (rest-going _ _ _ _ _ _ _ (omega (arith, c .before .before .before .before .before .before .before .before .before .before .before .before .before .before .before .before .loop .inv .0, c .before .before .before .before .before .before .before .before .before .before .before .before .before .if2 .left)) _ _ (is-going _ _ _ _ _ _ (c .before .before .before .before .before .take-pair .ensures) _ (c .before .one .given .1)))
-      ∙ sym (ap (rest _ _ _ _ _) (c .before .before .before .before .before .before .before .before .before .before .leave .ensures .was)) ∙ c .before .before .before .before .before .before .before .before .before .before .before .before .before .before .before .before .loop .inv .3,
-)
+loop-again c =
+    let L = c .before .before .before .before .before .before .before .before .before .before .before .before .before .before .before .before .loop in
+    let if2 = c .before .before .before .before .before .before .before .before .before .before .before .before .before .if2 in
+    let leave = c .before .before .before .before .before .before .before .before .before .before .leave in
+    let take-pair = c .before .before .before .before .before .take-pair in
+    let one = c .before .one in (
+      omega (arith, L .inv .0, if2 .left),
+      search needs,
+      is-sound _ _ _ _ _ _ (take-pair .ensures) _ (one .given .1),
+      sym (rest-going _ _ _ _ _ _ _ (omega (arith, L .inv .0, if2 .left)) _ _ (is-going _ _ _ _ _ _ (take-pair .ensures) _ (one .given .1)))
+          ∙ sym (ap (rest _ _ _ _ _) (leave .ensures .was)) ∙ L .inv .3,
+    )
 
 same-length-3 : tie.Need-same-length-3 Inv-loop μ-loop
 same-length-3 c = search needs

@@ -27,24 +27,36 @@ same-length c = search needs
 
 returns-3 : tie.Need-returns-3
 returns-3 c =
+    let if1 = c .before .before .before .before .before .before .before .before .before .if1 in
+    let if2 = c .before .before .before .before .before .before .before .before .if2 in
+    let cut-cell = c .before .before .before .before .cut-cell in
     record {
-      same = sym (turn-dead _ _ _ _ _ _ _ (c .before .before .before .before .before .before .before .before .before .if1 .left) (c .before .before .before .before .before .before .before .before .if2 .left) (is-dead _ _ _ _ _ _ (c .before .before .before .before .cut-cell .ensures) (c .enum-told .given .1)));
+      same = sym (turn-dead _ _ _ _ _ _ _ (if1 .left) (if2 .left) (is-dead _ _ _ _ _ _ (cut-cell .ensures) (c .enum-told .given .1)));
       sound = tt;
     }
 
 cut-cell-requires-2 : tie.Need-cut-cell-requires-2
 cut-cell-requires-2 c κs =
-    let s = c .before .before .before .before .before .before .before .before .before .before .before .before .before .before .before .pre in
-    (s .0, s .3, s .1, s .2, c .before .before .before .before .before .before .before .before .before .before .before .before .if2 .left, search needs, is-sound _ _ _ _ _ _ (c .before .before .before .before .before .before .before .before .cut-cell .ensures) _ (c .before .before .before .before .first .given .1))
+    let start = c .before .before .before .before .before .before .before .before .before .before .before .before .before .before .before in
+    let if2 = c .before .before .before .before .before .before .before .before .before .before .before .before .if2 in
+    let cut-cell = c .before .before .before .before .before .before .before .before .cut-cell in
+    let first = c .before .before .before .before .first in
+    let s = start .pre in
+    (s .0, s .3, s .1, s .2, if2 .left, search needs, is-sound _ _ _ _ _ _ (cut-cell .ensures) _ (first .given .1))
 
 same-length-2 : tie.Need-same-length-2
 same-length-2 c = search needs
 
 returns-4 : tie.Need-returns-4
 returns-4 c =
+    let if1 = c .before .before .before .before .before .before .before .before .before .before .before .before .before .before .before .before .if1 in
+    let if2 = c .before .before .before .before .before .before .before .before .before .before .before .before .before .before .before .if2 in
+    let cut-cell = c .before .before .before .before .before .before .before .before .before .before .before .cut-cell in
+    let first = c .before .before .before .before .before .before .before .first in
+    let cut-cell2 = c .before .before .cut-cell2 in
     record {
-      same = c .before .before .cut-cell2 .ensures .same ∙ sym (turn-going _ _ _ _ _ _ _ (c .before .before .before .before .before .before .before .before .before .before .before .before .before .before .before .before .if1 .left) (c .before .before .before .before .before .before .before .before .before .before .before .before .before .before .before .if2 .left) _ _ (is-going _ _ _ _ _ _ (c .before .before .before .before .before .before .before .before .before .before .before .cut-cell .ensures) _ (c .before .before .before .before .before .before .before .first .given .1)));
-      sound = c .before .before .cut-cell2 .ensures .sound;
+      same = cut-cell2 .ensures .same ∙ sym (turn-going _ _ _ _ _ _ _ (if1 .left) (if2 .left) _ _ (is-going _ _ _ _ _ _ (cut-cell .ensures) _ (first .given .1)));
+      sound = cut-cell2 .ensures .sound;
     }
 
 pub turn-at-spec : {M : Type 1} → statement M
