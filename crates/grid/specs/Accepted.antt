@@ -28,11 +28,17 @@ sizeRefusal n g = pickℕ (ltb 32 n) 1 (pickℕ (eqb (length g) (n * n)) 0 2)
 abbrev pub someLarge : List ℕ → Bool
 someLarge g = some (length g) (λ p. ltb 8191 (getD g p 0))
 
+abbrev pub notEq : ℕ → List ℕ → ℕ → Bool
+notEq n g i = not (eqb (cell n g i i) 4096)
+
 abbrev pub someNotEq : ℕ → List ℕ → Bool
-someNotEq n g = some n (λ i. not (eqb (cell n g i i) 4096))
+someNotEq n g = some n (notEq n g)
+
+abbrev pub unlike : ℕ → List ℕ → ℕ → ℕ → Bool
+unlike n g i j = not (eqb (cell n g j i) (converse (cell n g i j)))
 
 abbrev pub rowUnlike : ℕ → List ℕ → ℕ → Bool
-rowUnlike n g i = some n (λ j. not (eqb (cell n g j i) (converse (cell n g i j))))
+rowUnlike n g i = some n (unlike n g i)
 
 abbrev pub someUnlike : ℕ → List ℕ → Bool
 someUnlike n g = some n (rowUnlike n g)

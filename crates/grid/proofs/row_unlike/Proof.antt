@@ -3,17 +3,16 @@ use mathlib.Core.Path.{_≡_, sym, ap, _∙_, subst}
 use mathlib.Core.Bool.{not}
 use Prim.Native.Nat.{_-_, _≤_}
 use borrow.Author.Tests.{eq-eqb, ne-eqb}
-use lib.Dec.{eqb}
 use Rattle.relation.proofs.Tested.{NoneBelow, none-more, some-yes, some-no}
-use Rattle.grid.specs.Cells.{cell}
 use Rattle.relation.specs.Composition.{converse}
+use Rattle.grid.specs.Accepted.{unlike}
 use borrow.Author.Needs.{needs}
 use native.Mathlib.Omega.{arith}
 use Rattle.grid.proofs.row_unlike.Statement.{statement}
 use Rattle.grid.proofs.row_unlike.Tie as tie
 
 abbrev Inv-loop : tie.InvT-loop
-Inv-loop g n i j₀ j = (j ≤ n) × NoneBelow (λ k. not (eqb (cell n g k i) (converse (cell n g i k)))) j
+Inv-loop g n i j₀ j = (j ≤ n) × NoneBelow (unlike n g i) j
 
 abbrev μ-loop : tie.MeasureT-loop
 μ-loop g n i j₀ j = n - j
@@ -36,7 +35,7 @@ returns c =
     let L = c .before .before .before .before .before .loop in
     let get = c .before .before .before .get in
     let converse-of = c .before .before .converse-of in
-    sym (some-yes (s .args .n) (λ j. not (eqb (cell (s .args .n) (s .args .g .now) j (s .args .i)) (converse (cell (s .args .n) (s .args .g .now) (s .args .i) j)))) (L .j) (search needs) (ap not (ne-eqb _ _ (λ e. c .if1 .taken (c .before .get2 .ensures ∙ e ∙ sym (converse-of .ensures ∙ ap converse (get .ensures)))))))
+    sym (some-yes (s .args .n) (unlike (s .args .n) (s .args .g .now) (s .args .i)) (L .j) (search needs) (ap not (ne-eqb _ _ (λ e. c .if1 .taken (c .before .get2 .ensures ∙ e ∙ sym (converse-of .ensures ∙ ap converse (get .ensures)))))))
 
 add-j : tie.Need-add-j Inv-loop μ-loop
 add-j c = search needs
@@ -50,14 +49,14 @@ loop-again c =
     let L = c .before .before .before .before .before .loop in
     let get = c .before .before .before .get in
     let converse-of = c .before .before .converse-of in
-    (search needs, none-more (λ j. not (eqb (cell (s .args .n) (s .args .g .now) j (s .args .i)) (converse (cell (s .args .n) (s .args .g .now) (s .args .i) j)))) (L .j) (L .inv .1) (ap not (eq-eqb _ _ (sym (c .before .get2 .ensures) ∙ c .if1 .left ∙ converse-of .ensures ∙ ap converse (get .ensures)))))
+    (search needs, none-more (unlike (s .args .n) (s .args .g .now) (s .args .i)) (L .j) (L .inv .1) (ap not (eq-eqb _ _ (sym (c .before .get2 .ensures) ∙ c .if1 .left ∙ converse-of .ensures ∙ ap converse (get .ensures)))))
 
 returns-2 : tie.Need-returns-2 Inv-loop μ-loop
 returns-2 c =
     let s = c .before .before .before in
     let L = c .before .loop in
     let e : L .j ≡ s .args .n = omega arith in
-    sym (some-no (s .args .n) (λ j. not (eqb (cell (s .args .n) (s .args .g .now) j (s .args .i)) (converse (cell (s .args .n) (s .args .g .now) (s .args .i) j)))) (subst (NoneBelow (λ j. not (eqb (cell (s .args .n) (s .args .g .now) j (s .args .i)) (converse (cell (s .args .n) (s .args .g .now) (s .args .i) j))))) e (L .inv .1)))
+    sym (some-no (s .args .n) (unlike (s .args .n) (s .args .g .now) (s .args .i)) (subst (NoneBelow (unlike (s .args .n) (s .args .g .now) (s .args .i))) e (L .inv .1)))
 
 pub row-unlike-spec : {M : Type 1} → statement M
 row-unlike-spec =
