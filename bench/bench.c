@@ -9,7 +9,7 @@ int printf(const char *, ...);
 int fflush(void *);
 void exit(int);
 
-enum { PROVED, PLAIN_C, PROGRAMS, SAMPLES = 9, GRIDS = 32, SHEETS = 8, PAIRS = 1024, LEAST = 4000000, MONOTONIC = 1 };
+enum { PROVED, PLAIN_C, PROGRAMS, SAMPLES = 9, GRIDS = 32, SHEETS = 8, PAIRS = 1024, LEAST = 4000000 };
 
 static const struct {
     u64 (*compose)(u16, u16);
@@ -379,9 +379,12 @@ static void agree_on_sheets(int count) {
 
 struct figures { double median[PROGRAMS], least, most; };
 
+// CLOCK_PROCESS_CPUTIME_ID: the program's own time, so that what else the machine does is left out.
+enum { OWN_TIME = 2 };
+
 static long now(void) {
     struct timespec t;
-    clock_gettime(MONOTONIC, &t);
+    clock_gettime(OWN_TIME, &t);
     return t.seconds * 1000000000 + t.nanoseconds;
 }
 
