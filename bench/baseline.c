@@ -309,7 +309,7 @@ static int two_fields(struct part line, struct part *first, struct part *second)
     return 1;
 }
 
-static const struct { u8 text[9]; u8 len; u16 set; } words[17] = {
+static const struct { u8 text[10]; u8 len; u16 set; } words[17] = {
     {"b", 1, 1}, {"bi", 2, 2}, {"m", 1, 4}, {"mi", 2, 8}, {"o", 1, 16}, {"oi", 2, 32}, {"s", 1, 64}, {"si", 2, 128},
     {"d", 1, 256}, {"di", 2, 512}, {"f", 1, 1024}, {"fi", 2, 2048}, {"eq", 2, EQ}, {"any", 3, ALL},
     {"meanwhile", 9, ALL - 15}, {"within", 6, 256}, {"until", 5, 4},

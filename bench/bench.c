@@ -188,7 +188,7 @@ static void join_sheet(struct text *t, int n) {
         for (u64 k = 0; k < body[i].text.bytes; k++) t->at[t->bytes++] = body[i].text.at[k];
 }
 
-// Random statements until so many bytes are nearly reached, and words in front of the last to fill up the rest.
+// Random statements until so many bytes are nearly reached, and words in front of the last one to fill up the rest.
 static void make_long_sheet(struct text *t, int n, u64 size) {
     u64 used = 0;
     no_statements(n);
@@ -198,9 +198,8 @@ static void make_long_sheet(struct text *t, int n, u64 size) {
         used += body[i].text.bytes - before;
     }
     join_sheet(t, n);
-    u64 left = size - t->bytes, from = t->bytes;
-    while (t->at[from - 2] != '\n') from--;
-    from--;
+    u64 left = size - t->bytes, from = t->bytes - 1;
+    while (t->at[from - 1] != '\n') from--;
     for (u64 k = t->bytes; k > from; k--) t->at[k + left - 1] = t->at[k - 1];
     t->bytes = from;
     if (left % 2) put(t, "eq,");
@@ -502,8 +501,10 @@ static struct figures measure_reading(u64 size) {
     make_long_sheet(&sheets.sheet[0], MOST, size);
     same_read("reading a long sheet", 0, &sheets.sheet[0], CELLS);
     if (c_read_sheet(sheets.sheet[0].at, sheets.sheet[0].bytes, grids.cells[0], CELLS) >> 32) differ("a long sheet is refused", 0);
+    u32 statements = 0;
+    for (int i = 0; i < MOST; i++) statements += body[i].count;
     struct figures f = timed(read_round);
-    printf("reading a sheet of %lu bytes: ", sheets.sheet[0].bytes);
+    printf("reading a sheet of %lu bytes, %u statements: ", sheets.sheet[0].bytes, statements);
     print_ratio(f);
     return f;
 }
@@ -570,6 +571,7 @@ void begin(void) {
     for (int n = 8; n <= 32; n *= 2) for (int kind = 0; kind < 3; kind++) measure_plain(n, kind);
     for (int n = 8; n <= 32; n += 8) measure_search(n, counts[n / 8 - 1], "as in planning", planning);
     for (int n = 8; n <= 32; n += 8) measure_search(n, counts[n / 8 - 1], "all sets", all_sets);
+    for (int kind = 0; kind < 3; kind++) measure_search(32, 8, kinds[kind].name, kinds[kind].saying);
     measure_readings();
     measure_place();
     measure_growth("quick closing, middling grids,", quick_round, make_for_closing);
