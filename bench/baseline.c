@@ -3,6 +3,13 @@
 // worked out from the meaning of the relations.
 #include "measured.h"
 
+compose_function c_compose;
+quick_close_function c_quick_close;
+plain_close_function c_plain_close;
+find_placing_function c_find_placing;
+read_sheet_function c_read_sheet;
+place_function c_place;
+
 void *memcpy(void *, const void *, u64);
 
 // ---- relations and sets
@@ -28,7 +35,8 @@ static int relation_of(int a, int b, int c, int d) {
     return 12;
 }
 
-void c_make_tables(void) {
+// Once, when the program is loaded.
+__attribute__((constructor)) static void make_tables(void) {
     static u16 table[13][13];
     for (int a = 0; a < 6; a++) for (int b = a + 1; b < 6; b++)
     for (int c = 0; c < 6; c++) for (int d = c + 1; d < 6; d++) {
