@@ -56,6 +56,9 @@ static struct functions load(const char *folder, const char *name, int layout) {
 
 static u64 state;
 
+// A small number is spread over all digits, since the first numbers after it would be small too.
+static void seed(u64 number) { state = number * 0x9e3779b97f4a7c15; }
+
 static u32 below(u32 most) {
     state ^= state << 13;
     state ^= state >> 7;
@@ -124,7 +127,7 @@ static void make_grid(u16 *g, int n, say *saying) {
 }
 
 static void make_grids(int n, int count, say *saying) {
-    state = 7 + n;
+    seed(7 + n);
     grids.n = n;
     grids.count = count;
     for (int k = 0; k < count; k++) make_grid(grids.cells[k], n, saying);
@@ -133,7 +136,7 @@ static void make_grids(int n, int count, say *saying) {
 // Grids as in planning, of which each is placed; in exactly so many tries where that is asked.
 static void make_placed_grids(int n, int count, u32 tries) {
     int room[2 * MOST];
-    state = 11 + n;
+    seed(11 + n);
     grids.n = n;
     grids.count = 0;
     while (grids.count < count) {
@@ -366,7 +369,7 @@ static void same_place(const char *what, int k, const struct text *t) {
 
 // Small grids of which some are faulty, with small limits and allowances.
 static void agree_on_grids(int count) {
-    state = 3;
+    seed(3);
     for (int k = 0; k < count; k++) {
         u16 g[CELLS + 1];
         int n = below(7), cells = n * n;
@@ -388,7 +391,7 @@ static void agree_on_grids(int count) {
 static void agree_on_sheets(int count) {
     static const char other[] = "0123456789abimeqoxz ,\n";
     static struct text t;
-    state = 5;
+    seed(5);
     for (int k = 0; k < count; k++) {
         int n = 1 + below(5);
         no_statements(n);
@@ -498,10 +501,12 @@ static double exponent(const double *x, const double *y, int count) {
 
 // ---- the cases
 
-static const struct { const char *name; say *saying; } kinds[3] = {{"sparse", sparse}, {"middling", middling}, {"dense", dense}};
+static const struct { const char *name; say *saying; } kinds[3] = {
+    {"sparse", sparse}, {"middling", middling}, {"dense", dense},
+};
 
 static void measure_composition(void) {
-    state = 1;
+    seed(1);
     for (int k = 0; k < PAIRS; k++) {
         for (int side = 0; side < 2; side++) pairs[k][side] = below(ALL + 1);
         same_compose("composition", k, pairs[k][0], pairs[k][1]);
@@ -539,7 +544,7 @@ static void measure_search(int n, int count, const char *name, say *saying) {
 }
 
 static struct figures measure_reading(u64 size) {
-    state = 13;
+    seed(13);
     sheets.count = 1;
     make_long_sheet(&sheets.sheet[0], MOST, size);
     same_read("reading a long sheet", 0, &sheets.sheet[0], CELLS);
@@ -576,7 +581,8 @@ static void measure_growth(const char *what, round *go, void (*make)(int n)) {
         n[k] = 8 + 4 * k;
         for (int who = 0; who < PROGRAMS; who++) time[who][k] = f.median[who];
     }
-    printf("%s grows with n to the power: proved %.2f, C %.2f\n", what, exponent(n, time[PROVED], 7), exponent(n, time[PLAIN_C], 7));
+    printf("%s grows with n to the power: proved %.2f, C %.2f\n", what,
+           exponent(n, time[PROVED], 7), exponent(n, time[PLAIN_C], 7));
     fflush(0);
 }
 
@@ -593,7 +599,8 @@ static void make_for_search(int n) {
 // A placing of 32 events needs at least 496 tries, one for each pair.
 static void measure_shortest_search(void) {
     make_placed_grids(MOST, 8, 496);
-    for (int k = 0; k < grids.count; k++) same_search("search in 496 tries", k, grids.cells[k], CELLS, MOST, ALLOWANCE, 2 * MOST);
+    for (int k = 0; k < grids.count; k++)
+        same_search("search in 496 tries", k, grids.cells[k], CELLS, MOST, ALLOWANCE, 2 * MOST);
     struct figures search = timed(search_round), closing = timed(quick_round);
     printf("a search at n = 32 placed in 496 tries: ");
     print_ratio(search);
