@@ -62,6 +62,17 @@ static inline u16 compose(u16 a, u16 b) {
     return c;
 }
 
+// What a route with the sets a and b leaves of a set. Most routes allow all of it, and that shows early.
+static inline u16 left_by(u16 old, u16 a, u16 b) {
+    u16 c = 0;
+    for (; a; a &= a - 1) {
+        int r = __builtin_ctz(a);
+        c |= low[r][b & 63] | high[r][b >> 6];
+        if (!(old & ~c)) return old;
+    }
+    return old & c;
+}
+
 // ---- answers
 
 static u64 coded(u64 kind, u32 value) { return kind << 32 | value; }
@@ -100,6 +111,9 @@ static void clear(u16 *g, int n) {
 
 struct line { u16 ring[CELLS]; u8 waits[CELLS]; u32 head, len; };
 
+// One waiting list is enough, as no two runs of takes overlap. Every run leaves it empty.
+static struct line waiting;
+
 static void join(struct line *l, int a, int b) {
     int p = a < b ? a * 32 + b : b * 32 + a;
     if (l->waits[p]) return;
@@ -107,9 +121,18 @@ static void join(struct line *l, int a, int b) {
     l->ring[(l->head + l->len++) % CELLS] = p;
 }
 
+// Removes the first pair.
+static int first_of(struct line *l) {
+    int p = l->ring[l->head];
+    l->waits[p] = 0;
+    l->head = (l->head + 1) % CELLS;
+    l->len--;
+    return p;
+}
+
 // Cuts (a, b) to what (a, m) with (m, b) allows: whether something is left.
 static int cut(u16 *g, int n, struct line *l, int a, int m, int b) {
-    u16 old = g[a * n + b], new = old & compose(g[a * n + m], g[m * n + b]);
+    u16 old = g[a * n + b], new = left_by(old, g[a * n + m], g[m * n + b]);
     if (new == old) return 1;
     if (!new) return 0;
     g[a * n + b] = new;
@@ -118,34 +141,30 @@ static int cut(u16 *g, int n, struct line *l, int a, int m, int b) {
     return 1;
 }
 
-// Takes until none waits or the limit is reached: DONE, NOTHING or STOPPED, with the takes.
-static u64 takes(u16 *g, int n, struct line *l, u64 limit) {
-    for (u64 t = 0;; t++) {
-        if (!l->len) return coded(DONE, t);
-        if (t == limit) return coded(STOPPED, t);
-        int p = l->ring[l->head], i = p / 32, j = p % 32;
-        l->waits[p] = 0;
-        l->head = (l->head + 1) % CELLS;
-        l->len--;
-        for (int k = 0; k < n; k++) {
-            if (k == i || k == j) continue;
-            if (!cut(g, n, l, i, j, k) || !cut(g, n, l, k, i, j)) return coded(NOTHING, t + 1);
-        }
+// One take: whether nothing became empty.
+static int take(u16 *g, int n, struct line *l, int i, int j) {
+    for (int k = 0; k < n; k++) {
+        if (k == i || k == j) continue;
+        if (!cut(g, n, l, i, j, k) || !cut(g, n, l, k, i, j)) return 0;
     }
+    return 1;
 }
 
-// An empty waiting list. One is enough, as no two runs of takes overlap; the ring needs no clearing.
-static struct line *no_pairs(void) {
-    static struct line l;
-    for (int p = 0; p < CELLS; p++) l.waits[p] = 0;
-    l.head = l.len = 0;
-    return &l;
+// Takes until none waits or the limit is reached: DONE, NOTHING or STOPPED, with the takes.
+static u64 takes(u16 *g, int n, struct line *l, u64 limit) {
+    u64 t = 0, kind = DONE;
+    for (; l->len && kind == DONE; t++) {
+        if (t == limit) { kind = STOPPED; break; }
+        int p = first_of(l);
+        if (!take(g, n, l, p / 32, p % 32)) kind = NOTHING;
+    }
+    while (l->len) first_of(l);
+    return coded(kind, t);
 }
 
 static u64 close_all(u16 *g, int n, u64 limit) {
-    struct line *l = no_pairs();
-    for (int i = 0; i < n; i++) for (int j = i + 1; j < n; j++) join(l, i, j);
-    return takes(g, n, l, limit);
+    for (int i = 0; i < n; i++) for (int j = i + 1; j < n; j++) join(&waiting, i, j);
+    return takes(g, n, &waiting, limit);
 }
 
 u64 c_quick_close(u16 *g, u64 cells, u64 n, u64 limit) {
@@ -164,7 +183,7 @@ static int sweep(u16 *g, int n) {
     int changed = 0;
     for (int a = 0; a < n; a++) for (int b = a + 1; b < n; b++) for (int m = 0; m < n; m++) {
         if (m == a || m == b) continue;
-        u16 old = g[a * n + b], new = old & compose(g[a * n + m], g[m * n + b]);
+        u16 old = g[a * n + b], new = left_by(old, g[a * n + m], g[m * n + b]);
         if (new == old) continue;
         if (!new) return -1;
         g[a * n + b] = new;
@@ -190,11 +209,10 @@ u64 c_plain_close(u16 *g, u64 cells, u64 n) {
 static u32 tries, allowed;
 
 static int attempt(u16 *g, int n, int i, int j, int r) {
-    struct line *l = no_pairs();
     g[i * n + j] = 1 << r;
     g[j * n + i] = 1 << exchanged[r];
-    join(l, i, j);
-    return takes(g, n, l, ENOUGH) >> 32 == DONE;
+    join(&waiting, i, j);
+    return takes(g, n, &waiting, ENOUGH) >> 32 == DONE;
 }
 
 // The placing without gaps of a decided grid, if it meets every cell.
@@ -221,10 +239,12 @@ static int settle(const u16 *g, int n, int *room) {
 static int look(const u16 *g, int n, int i, int j, int *room) {
     if (j >= n) { i++; j = i + 1; }
     if (j >= n) return settle(g, n, room) ? DONE : NOTHING;
-    for (u16 set = g[i * n + j]; set; set &= set - 1) {
+    for (u16 set = g[i * n + j], all = set; set; set &= set - 1) {
         u16 work[CELLS];
         if (tries == allowed) return STOPPED;
         tries++;
+        // A relation that is there alone cuts nothing, and the grid is closed already.
+        if (!(all & (all - 1))) return look(g, n, i, j + 1, room);
         memcpy(work, g, 2 * n * n);
         if (!attempt(work, n, i, j, __builtin_ctz(set))) continue;
         int below = look(work, n, i, j + 1, room);
