@@ -1,3 +1,4 @@
 pub mod CellLaws
 pub mod AcceptedLaws
 pub mod JudgedLaws
+pub mod UnlikeLaws

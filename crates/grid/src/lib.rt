@@ -1,11 +1,13 @@
 // Grids: where a cell stands, and which grids are accepted.
 ghost use mathlib.Core.Path.{_≡_};
+ghost use mathlib.Core.Bool.{false};
 ghost use mathlib.Core.List.{_++_};
 ghost use Prim.Native.Nat.{_*_, _≤_, _<_};
 ghost use lib.ListN.{length, take, drop, replicate};
 ghost use Rattle.relation.specs.Composition.{converse};
 ghost use Rattle.grid.specs.Cells.{cell, put, putBoth, someEmpty};
-ghost use Rattle.grid.specs.Accepted.{sizeRefusal, cellRefusal, gridRefusal, someLarge, someNotEq, rowUnlike, someUnlike, judgedNumber};
+ghost use Rattle.grid.specs.Accepted.{sizeRefusal, cellRefusal, gridRefusal, someLarge, someNotEq, unlike, someUnlike, judgedNumber};
+ghost use Rattle.grid.specs.Steps.{aboveUnlike};
 use refusal::Refusal;
 
 // The largest number of events, the set of all relations, and the set of eq alone.
@@ -154,16 +156,27 @@ fn some_not_eq(g: &[u16], n: usize) -> bool
     false
 }
 
-// Some cell of column i is not the converse of its mirror.
+// Cell (j, i) is not the converse of cell (i, j). Where nothing is said of i to j, there is nothing to turn round.
+fn is_unlike(g: &[u16], n: usize, i: usize, j: usize) -> bool
+    requires { ⌜ (n ≤ 32) × (i < n) × (j < n) × (length (now g) ≡ n * n) ⌝ }
+    ensures { λ r. ⌜ r ≡ unlike n (now (g .entry)) i j ⌝ }
+{
+    let set = get(g, n, i, j);
+    let mirror = get(g, n, j, i);
+    if set == ALL {
+        return mirror != ALL;
+    }
+    mirror != relation::converse_of(set)
+}
+
+// Some cell of row i above the diagonal is not the converse of its mirror.
 fn row_unlike(g: &[u16], n: usize, i: usize) -> bool
     requires { ⌜ (n ≤ 32) × (i < n) × (length (now g) ≡ n * n) ⌝ }
-    ensures { λ r. ⌜ r ≡ rowUnlike n (now (g .entry)) i ⌝ }
+    ensures { λ r. ⌜ r ≡ aboveUnlike n (now (g .entry)) i ⌝ }
 {
-    let mut j = 0;
+    let mut j = i + 1;
     while j < n {
-        let turned = relation::converse_of(get(g, n, i, j));
-        let mirror = get(g, n, j, i);
-        if mirror != turned {
+        if is_unlike(g, n, i, j) {
             return true;
         }
         j += 1;
@@ -171,9 +184,9 @@ fn row_unlike(g: &[u16], n: usize, i: usize) -> bool
     false
 }
 
-// Some cell is not the converse of its mirror.
+// Some cell is not the converse of its mirror. The cells above the diagonal tell, as the others are all right so far.
 fn some_unlike(g: &[u16], n: usize) -> bool
-    requires { ⌜ (n ≤ 32) × (length (now g) ≡ n * n) ⌝ }
+    requires { ⌜ (n ≤ 32) × (length (now g) ≡ n * n) × (someLarge (now g) ≡ false) × (someNotEq n (now g) ≡ false) ⌝ }
     ensures { λ r. ⌜ r ≡ someUnlike n (now (g .entry)) ⌝ }
 {
     let mut i = 0;

@@ -7,7 +7,7 @@ use lib.Dec.{T, eqb, ltb, eqb→eq, eqb-refl, ltb→lt}
 use lib.Bits.{bitAnd, bitOr, and-le-l}
 use Rattle.relation.specs.Comparing.{relOf}
 use Rattle.relation.specs.Meaning.{Event, exchanged}
-use Rattle.relation.specs.Sets.{member, Inside}
+use Rattle.relation.specs.Sets.{member, setBelow, setOf, some, unionOver, Inside}
 use Rattle.relation.specs.Composition.{converse}
 use Rattle.relation.proofs.Tested.{T-of, of-T, and-left, and-right, all, all-at, both-ways}
 use Rattle.relation.proofs.Relations.{relOf-lt, exactly-one, exchanged-holds}
@@ -73,6 +73,15 @@ converse-twice a h =
     same (converse (converse a)) a (converse-lt (converse a)) h
     (λ t l. member-converse (converse a) t l ∙ member-converse a (exchanged t) (exchanged-lt t l)
     ∙ ap (λ (u : ℕ). member u a) (exchanged-twice t l))
+
+-- all relations, turned round, are all relations
+pub converse-all : converse 8191 ≡ 8191
+unfolding member setBelow setOf some unionOver exchanged converse
+converse-all = refl
+
+pub converse-eq : converse 4096 ≡ 4096
+unfolding member setBelow setOf some unionOver exchanged converse
+converse-eq = refl
 
 pub converse-none : converse 0 ≡ 0
 unfolding converse

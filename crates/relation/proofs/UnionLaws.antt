@@ -4,7 +4,8 @@ use mathlib.Core.Bool.{Bool, true, false, not, _&&_, _||_}
 use Prim.Native.Nat.{ℕ, _-_, _%_, _^_, _<_}
 use native.Mathlib.Omega.{arith}
 use lib.Dec.{T, eqb, eqb→eq, eqb-refl, lit<}
-use lib.Bits.{bitAnd, bitOr, or-lt, or-zero-l, or-zero-r}
+use native.Mathlib.Nat.{mod-eq-of-lt}
+use lib.Bits.{bitAnd, bitOr, and-comm, and-self, and-mask, or-lt, or-zero-l, or-zero-r}
 use lib.Pow.{pow-pos}
 use lib.Count.{trailingZeros}
 use Rattle.relation.specs.Sets.{member, some, unionOver, Inside}
@@ -191,3 +192,9 @@ gathers-end f a out left z g =
 -- a set that lies inside what is gathered lies inside the whole
 pub gathers-holds : (f : ℕ → ℕ) (a out left set : ℕ) → Gathers f a out left → set < 65536 → bitAnd set out ≡ set → bitAnd set (unionOver f a) ≡ set
 gathers-holds f a out left set g h e = ap (bitAnd set) (g .whole) ∙ and-or set out (unionOver f left) h e
+
+-- once all relations are gathered, they are the whole
+pub gathers-all : (f : ℕ → ℕ) (a out left : ℕ) → Gathers f a out left → out ≡ 8191 → out ≡ unionOver f a
+gathers-all f a out left g e =
+    e ∙ sym (gathers-holds f a out left 8191 g (lit< tt) (ap (bitAnd 8191) e ∙ and-self 8191))
+    ∙ and-comm 8191 (unionOver f a) ∙ and-mask (unionOver f a) 13 ∙ mod-eq-of-lt (union-lt f a)

@@ -111,7 +111,7 @@ fn compose_row(t: &[[u16; 13]; 13], r: usize, b: u16) -> u16
     out
 }
 
-// The composition of two sets, from the table: for a single call.
+// The composition of two sets, from the table: for a single call. Once all relations are there, no more can come.
 fn compose_of(a: u16, b: u16) -> u16
     ensures { λ x. ⌜ x ≡ compose a b ⌝ }
 {
@@ -121,6 +121,9 @@ fn compose_of(a: u16, b: u16) -> u16
     while left != 0 {
         let r = lowest(left);
         out |= compose_row(&t, r, b);
+        if out == 8191 {
+            return out;
+        }
         left = without_lowest(left);
     }
     out

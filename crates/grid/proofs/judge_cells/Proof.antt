@@ -22,7 +22,9 @@ returns-2 c =
     sym (cells-not-eq (s .args .n) (s .args .g .now) (sym (some-large .ensures) ∙ if1 .left) (sym (c .before .some-not-eq .ensures) ∙ c .if2 .taken))
 
 some-unlike-requires : tie.Need-some-unlike-requires
-some-unlike-requires c κs = search needs
+some-unlike-requires c κs =
+    let s = c .before .before .before .before .before .pre in
+    (s .0, s .1, sym (c .before .before .before .some-large .ensures) ∙ c .before .before .if1 .left, sym (c .before .some-not-eq .ensures) ∙ c .if2 .left)
 
 returns-3 : tie.Need-returns-3
 returns-3 c =

@@ -1,7 +1,9 @@
 -- What is gathered so far, with the composition of the members left, is that of the whole set.
 use mathlib.Core.Path.{refl}
+use Prim.Native.Nat.{_-_, _^_}
+use lib.Count.{trailingZeros}
 use Rattle.relation.specs.Composition.{table, composeRow, compose}
-use Rattle.relation.proofs.UnionLaws.{Gathers, gathers-start, gathers-turn, gathers-end, next-of}
+use Rattle.relation.proofs.UnionLaws.{Gathers, gathers-start, gathers-turn, gathers-end, gathers-all, next-of}
 use Rattle.relation.proofs.Laws.{row-lt}
 use borrow.Author.Needs.{needs}
 use Rattle.relation.proofs.compose_of.Statement.{statement}
@@ -21,39 +23,45 @@ lowest-requires c κs = search needs
 
 compose-row-requires : tie.Need-compose-row-requires Inv-loop μ-loop
 unfolding table
-compose-row-requires c κs =
-    let L = c .before .before .before .loop in
-    let loop-test = c .before .before .loop-test in
-    let lowest = c .before .lowest in
-    ((next-of (L .left) (lowest .result) (loop-test .taken) (L .inv .left-lt) (lowest .ensures)) .small, refl)
+compose-row-requires c κs = (next-of _ _ (c .before .before .loop-test .taken) (c .before .before .before .loop .inv .left-lt) (c .before .lowest .ensures) .small, refl)
+
+returns : tie.Need-returns Inv-loop μ-loop
+unfolding compose
+returns c =
+    let row = c .before .compose-row in
+    let lowest = c .before .before .before .lowest in
+    let L = c .before .before .before .before .before .loop in
+    let s = c .before .before .before .before .before .before .args in
+    let n = next-of (L .left) (lowest .result) (c .before .before .before .before .loop-test .taken) (L .inv .left-lt) (lowest .ensures) in
+    let g = gathers-turn (λ r. composeRow r (s .b)) (s .a) (L .out) (L .left) (lowest .result) (row .result) (L .left - 2 ^ trailingZeros 16 (L .left))
+    (row-lt (lowest .result) (s .b)) n (L .inv) (row .ensures) refl in
+    gathers-all (λ r. composeRow r (s .b)) (s .a) _ _ g (c .if1 .taken)
 
 without-lowest-requires : tie.Need-without-lowest-requires Inv-loop μ-loop
 without-lowest-requires c κs = search needs
 
 loop-less : tie.Need-loop-less Inv-loop μ-loop
 loop-less c =
-    let L = c .before .before .before .before .before .loop in
-    let loop-test = c .before .before .before .before .loop-test in
-    let lowest = c .before .before .before .lowest in
-    let n = next-of (L .left) (lowest .result) (loop-test .taken) (L .inv .left-lt) (lowest .ensures) in rw (c .without-lowest .ensures) (n .less)
+    let lowest = c .before .before .before .before .lowest in
+    let L = c .before .before .before .before .before .before .loop in
+    rw (c .without-lowest .ensures) (next-of (L .left) _ (c .before .before .before .before .before .loop-test .taken) (L .inv .left-lt) (lowest .ensures) .less)
 
 loop-again : tie.Need-loop-again Inv-loop μ-loop
 loop-again c =
-    let s = c .before .before .before .before .before .before in
-    let L = c .before .before .before .before .before .loop in
-    let loop-test = c .before .before .before .before .loop-test in
-    let lowest = c .before .before .before .lowest in
-    let compose-row = c .before .compose-row in
-    let without-lowest = c .without-lowest in
-    let b = s .args .b in
-    let r = lowest .result in
-    let n = next-of (L .left) (lowest .result) (loop-test .taken) (L .inv .left-lt) (lowest .ensures) in
-    gathers-turn (λ r. composeRow r b) (s .args .a) (L .out) (L .left) r (compose-row .result) (without-lowest .result)
-    (row-lt r b) n (L .inv) (compose-row .ensures) (without-lowest .ensures)
+    let row = c .before .before .compose-row in
+    let lowest = c .before .before .before .before .lowest in
+    let L = c .before .before .before .before .before .before .loop in
+    let s = c .before .before .before .before .before .before .before .args in
+    let n = next-of (L .left) (lowest .result) (c .before .before .before .before .before .loop-test .taken) (L .inv .left-lt) (lowest .ensures) in
+    gathers-turn (λ r. composeRow r (s .b)) (s .a) (L .out) (L .left) (lowest .result) (row .result) (c .without-lowest .result)
+    (row-lt (lowest .result) (s .b)) n (L .inv) (row .ensures) (c .without-lowest .ensures)
 
-returns : tie.Need-returns Inv-loop μ-loop
+returns-2 : tie.Need-returns-2 Inv-loop μ-loop
 unfolding compose
-returns c = gathers-end (λ r. composeRow r (c .before .before .args .b)) (c .before .before .args .a) (c .before .loop .out) (c .before .loop .left) (c .loop-test .left) (c .before .loop .inv)
+returns-2 c =
+    let s = c .before .before .args in
+    let L = c .before .loop in
+    gathers-end (λ r. composeRow r (s .b)) (s .a) (L .out) (L .left) (c .loop-test .left) (L .inv)
 
 pub compose-of-spec : {M : Type 1} → statement M
 compose-of-spec =
@@ -64,7 +72,8 @@ compose-of-spec =
     loop-holds
     lowest-requires
     compose-row-requires
+    returns
     without-lowest-requires
     loop-less
     loop-again
-    returns)
+    returns-2)
