@@ -1,17 +1,22 @@
 -- What the code sees at one cell, as steps of the rule. Assumes nothing.
 use mathlib.Core.Path.{_≡_, refl, sym, ap, subst, _∙_}
-use mathlib.Core.Bool.{Bool, true}
+use mathlib.Core.Bool.{Bool, true, false}
 use mathlib.Core.Logic.{⊎-elim}
 use mathlib.Core.List.{List, [], _∷_}
-use Prim.Native.Nat.{ℕ, _+_, _-_, _*_, _≤_, _<_}
+use Prim.Native.Nat.{ℕ, _+_, _-_, _*_, _^_, _≤_, _<_}
+use native.Mathlib.Decide.{ℕ-discrete}
+use native.Mathlib.Nat.{eq-or-lt-of-le}
 use native.Mathlib.Omega.{arith}
-use lib.Arith.{digits-lt}
+use borrow.Author.Tests.{ne-eqb}
+use lib.Count.{trailingZeros}
 use lib.IntN.{ℤ}
-use lib.ListN.{length, take}
-use lib.Seq.{getD-take}
+use lib.ListN.{length}
 use types.Run.{OneOf}
 use denote.Enum.Declared.{tagOf}
 use Rattle.relation.specs.Sets.{member}
+use Rattle.relation.proofs.SetLaws.{member-mark}
+use Rattle.relation.proofs.LowestLaws.{mark-le}
+use Rattle.relation.proofs.UnionLaws.{Next, next-of}
 use Rattle.grid.specs.Cells.{cell}
 use Rattle.theory.specs.Search.{Pair, emptied, closed, Found, placed, none, gaveUp, orNext, searchFrom, pairsFrom}
 use Rattle.takes.specs.Steps.{ended}
@@ -20,23 +25,20 @@ use Rattle.takes.specs.declared.End.the-variants.{Contradiction, Closed, Paused
 use Rattle.takes.proofs.End.{the-type as end-type}
 use Rattle.search.specs.Rule.{thereAt, triedBy, tryAt, searchAt}
 use Rattle.search.specs.Answers.{saidBy, roomBy}
-use Rattle.search.specs.Steps.{saidWith, Shows, Settles, Searched, AtCell}
+use Rattle.search.specs.Steps.{saidWith, Shows, Settles, Searched, AtCell, Stands, Steps, Passes, goesOn}
 use Rattle.search.specs.declared.Looked.{Looked}
+use Rattle.search.specs.declared.Stand.{Stand}
 use Rattle.search.specs.declared.Outcome.{Outcome}
 use Rattle.search.specs.declared.Outcome.the-variants.{Placed, None, GaveUp}
 use Rattle.search.proofs.Outcome.{the-type as outcome-type}
-use Rattle.search.proofs.RuleLaws.{from, from-closed, from-emptied}
-use Rattle.search.proofs.TryRight.{searched-whole, whole-searched, try-whole}
+use Rattle.search.proofs.RuleLaws.{from, from-closed, from-emptied, from-alone, at-next}
+use Rattle.search.proofs.TryRight.{searched-whole, whole-searched, try-same, try-whole}
 
 -- ---- the cell that is read
 
-pub cell-take : (n : ℕ) (g : List ℕ) (i j : ℕ) → i < n → j < n → cell n (take (n * n) g) i j ≡ cell n g i j
-unfolding cell
-cell-take n g i j hi hj = getD-take (n * n) g (i * n + j) 0 (digits-lt hi hj)
-
-pub there-is : (n i j r set : ℕ) (g : List ℕ) (b x : Bool) → i < n → j < n → set ≡ cell n g i j → b ≡ member r set → b ≡ x → thereAt n (i, j) r (take (n * n) g) ≡ x
+pub there-is : (n i j r set : ℕ) (g : List ℕ) (b x : Bool) → set ≡ cell n g i j → b ≡ member r set → b ≡ x → thereAt n (i, j) r g ≡ x
 unfolding thereAt
-there-is n i j r set g b x hi hj e f h = ap (member r) (cell-take n g i j hi hj ∙ sym e) ∙ sym f ∙ h
+there-is n i j r set g b x e f h = ap (member r) (sym e) ∙ sym f ∙ h
 
 -- ---- the first relation, and past the last cell
 
@@ -125,8 +127,65 @@ pub shows-none : (n a t : ℕ) (e : Found) (room room' : List ℤ) → e ≡ non
 shows-none n a t e room room' q k h =
     record { answer = sym (ap saidBy q); room-after = k ∙ sym (ap (λ (x : Found). roomBy n x room) q); within = h }
 
+-- what is shown from a stand that was passed to is shown from the one before
+pub shows-passed : (n a : ℕ) (g : List ℕ) (from s : Stand) (room room' : List ℤ) (l : Looked) → Passes n a g from s → Shows n a (goesOn n a g s) room l room'
+    → Shows n a (goesOn n a g from) room l room'
+shows-passed n a g from s room room' l p w = subst (λ (e : Found). Shows n a e room l room') (p .same) w
+
+-- a further try is allowed
+pub tries-left : (t a : ℕ) → t ≤ a → (t ≡ a → ⊥) → t < a
+tries-left t a h fresh = ⊎-elim (λ e. absurd (fresh e)) (λ l. l) (eq-or-lt-of-le h)
+
 -- a cell that is left is one of the upper cells
-pub in-grid : (n i j left : ℕ) → AtCell n i j left → (left ≡ 0 → ⊥) → (i < n) × (j < n) × (i ≡ j → ⊥)
-in-grid n i j left a nz =
-    let m = a .more (omega arith) in
-    (omega (arith, a .upper), m, λ e. omega (arith, a .upper))
+pub stands-in : (n a : ℕ) (s : Stand) → Stands n a s → 0 < s .left → (s .i < n) × (s .j < n) × (s .i ≡ s .j → ⊥)
+stands-in n a s w h =
+    let m = w .at .more h in
+    (omega (arith, w .at .upper), m, λ e. omega (arith, w .at .upper))
+
+-- and is not empty
+pub cell-some : (n : ℕ) (g : List ℕ) → Searched n g → (i j : ℕ) → i < n → j < n → (set : ℕ) → set ≡ cell n g i j → 0 < set
+cell-some n g S i j hi hj set is = go (ℕ-discrete set 0)
+  where
+    go : Dec (set ≡ 0) → 0 < set
+    go (yes z) = absurd (S .full i j hi hj (sym is ∙ z))
+    go (no nz) = omega arith
+
+-- ---- cells that have one relation alone
+
+module _ (n a : ℕ) (g : List ℕ) (S : Searched n g) (at s : Stand) (stands : Stands n a at) (more : 0 < at .left) (fresh : at .tries ≡ a → ⊥) (steps : Steps n at s) (set : ℕ) (is : set ≡ cell n g (at .i) (at .j)) (alone : set - 2 ^ trailingZeros 16 set ≡ 0) where
+  abbrev r : ℕ
+  r = trailingZeros 16 set
+
+  in-grid : (at .i < n) × (at .j < n) × (at .i ≡ at .j → ⊥)
+  in-grid = stands-in n a at stands more
+
+  some : 0 < set
+  some = cell-some n g S (at .i) (at .j) (in-grid .0) (in-grid .1) set is
+
+  lowest : Next set r
+  lowest = next-of set r (λ z. omega (arith, some)) (rw is (omega (arith, S .accepted .small (at .i) (at .j) (in-grid .0) (in-grid .1)))) refl
+
+  mark : cell n g (at .i) (at .j) ≡ 2 ^ r
+  mark = sym is ∙ omega (arith, alone, mark-le r set (lowest .is-in))
+
+  others : (x : ℕ) → x < 13 → (x ≡ r → ⊥) → thereAt n (at .i, at .j) x g ≡ false
+  unfolding thereAt
+  others x h ne = ap (member x) mark ∙ member-mark r x (lowest .small) h ∙ ne-eqb x r ne
+
+  there : thereAt n (at .i, at .j) r g ≡ true
+  unfolding thereAt
+  there = ap (member r) (sym is) ∙ lowest .is-in
+
+  pub alone-goes-on : goesOn n a g s ≡ goesOn n a g at
+  alone-goes-on =
+      ap (λ (t : ℕ). searchAt n a (pairsFrom n (s .i) (s .j)) g t) (steps .tries)
+      ∙ sym (from-alone (thereAt n) (tryAt n) a (searchAt n a (pairsFrom n (s .i) (s .j))) (at .i, at .j) g r (at .tries) (lowest .small) there others fresh
+      (try-same n (at .i) (at .j) r g S (in-grid .0) (in-grid .1) (in-grid .2) mark))
+      ∙ look-start n a (at .i) (at .j) (at .tries) g (pairsFrom n (s .i) (s .j)) (steps .next .pairs)
+
+  pub alone-stands : Stands n a s
+  alone-stands =
+      record {
+        at = subst (AtCell n (s .i) (s .j)) (sym (steps .left)) (at-next n (at .i) (at .j) (at .left) (s .i) (s .j) (stands .at) (steps .next));
+        within = omega (arith, steps .tries, tries-left (at .tries) a (stands .within) fresh);
+      }

@@ -16,7 +16,7 @@ use Rattle.grid.specs.Cells.{putBoth}
 use Rattle.theory.specs.Allen.{allen}
 use Rattle.theory.specs.Line.{pairOf, joins, occurs}
 use Rattle.theory.specs.Quick.{Ended, run}
-use Rattle.theory.specs.Search.{Pair, Tried, emptied, closed, Found, none, gaveUp, orNext, turnOf, relationsFrom, row, rows, pairsFrom}
+use Rattle.theory.specs.Search.{Pair, Tried, emptied, closed, Found, placed, none, gaveUp, orNext, turnOf, relationsFrom, row, rows, pairsFrom}
 use Rattle.placing.specs.Settling.{settles, Settled}
 use Rattle.search.specs.Rule.{enough, triedBy, tryAt}
 use Rattle.search.specs.Steps.{Settles, AtCell, Next}
@@ -149,3 +149,28 @@ module _ (there : Pair → ℕ → List ℕ → Bool) (attempt : Pair → ℕ �
   pub from-closed : (r t : ℕ) (l : List ℕ) → r < 13 → there p r g ≡ true → (t ≡ a → ⊥) → attempt p r g ≡ closed l
       → from r t ≡ orNext (rest l (t + 1)) (λ u. from (r + 1) u)
   from-closed r t l h e f k = from-turn r t h ∙ rw (e, ne-eqb t a f, k)
+
+  -- relations that are not there are passed over
+  pub from-absent : (k r t : ℕ) → k + r ≤ 13 → ((x : ℕ) → r ≤ x → x < k + r → there p x g ≡ false) → from r t ≡ from (k + r) t
+  from-absent zero r t h f = ap (λ (x : ℕ). from x t) (omega arith)
+  from-absent (suc k) r t h f =
+      let e : k + (r + 1) ≡ suc k + r = omega arith in
+      from-past r t t (omega arith) (f r (omega arith) (omega arith)) refl ∙ from-absent k (r + 1) t (omega arith) (λ x a b. f x (omega arith) (omega arith))
+      ∙ ap (λ (x : ℕ). from x t) e
+
+  -- where relation r is there alone, and its try leaves the grid as it is, the search goes on with the next cell
+  pub from-alone : (r t : ℕ) → r < 13 → there p r g ≡ true → ((x : ℕ) → x < 13 → (x ≡ r → ⊥) → there p x g ≡ false) → (t ≡ a → ⊥) → attempt p r g ≡ closed g → from 0 t ≡ rest g (t + 1)
+  from-alone r t lt is absent fresh tried =
+      let e : r + 0 ≡ r = omega arith in
+      from-absent r 0 t (omega arith) (λ x h k. absent x (omega arith) (λ q. omega arith)) ∙ ap (λ (x : ℕ). from x t) e ∙ from-closed r t g lt is fresh tried
+      ∙ or-none (rest g (t + 1)) (λ u. from (r + 1) u) nothing
+    where
+      or-none : (o : Found) (next : ℕ → Found) → ((u : ℕ) → next u ≡ none u) → orNext o next ≡ o
+      or-none (placed u h) next f = refl
+      or-none (none u) next f = f u
+      or-none (gaveUp u) next f = refl
+
+      nothing : (u : ℕ) → from (r + 1) u ≡ none u
+      nothing u =
+          let e : 13 - (r + 1) + (r + 1) ≡ 13 = omega arith in
+          from-absent (13 - (r + 1)) (r + 1) u (omega arith) (λ x h k. absent x (omega arith) (λ q. omega arith)) ∙ ap (λ (x : ℕ). from x u) e ∙ from-end 13 u (omega arith)

@@ -1,7 +1,7 @@
 -- The search from one cell on, and where the code stands. Inner functions cite this; the public statement does not. Assumes nothing.
 use mathlib.Core.Path.{_≡_}
 use mathlib.Core.List.{List, _∷_}
-use Prim.Native.Nat.{ℕ, _≤_, _<_}
+use Prim.Native.Nat.{ℕ, _+_, _-_, _≤_, _<_}
 use lib.IntN.{ℤ}
 use lib.ListN.{length}
 use Rattle.grid.specs.Cells.{cell}
@@ -10,10 +10,12 @@ use Rattle.theory.specs.Allen.{allen}
 use Rattle.theory.specs.Closing.{Closed}
 use Rattle.theory.specs.Search.{Found, pastLast, pairsFrom}
 use Rattle.placing.specs.Settling.{settles}
+use Rattle.search.specs.Rule.{searchAt}
 use Rattle.search.specs.Answers.{Said, saidPlaced, saidNone, saidGaveUp, saidOf, saidBy, roomBy}
 use Rattle.search.specs.declared.Outcome.{Outcome}
 use Rattle.search.specs.declared.Outcome.the-variants.{Placed, None, GaveUp}
 use Rattle.search.specs.declared.Looked.{Looked}
+use Rattle.search.specs.declared.Stand.{Stand}
 use Rattle.search.specs.declared.PlaceAnswer.{PlaceAnswer}
 
 abbrev pub saidWith : Outcome → ℕ → Said
@@ -44,7 +46,7 @@ pub record Searched (n : ℕ) (g : List ℕ) : Type 0 where
   pub full : (i j : ℕ) → i < n → j < n → cell n g i j ≡ 0 → ⊥
   pub closed : Closed allen n (cell n g)
 
--- the code stands at cell (i, j), or past the last, with so many cells left
+-- cell (i, j), or past the last, with so many cells left
 pub record AtCell (n i j left : ℕ) : Type 0 where
   pub few : n ≤ 32
   pub upper : i < j
@@ -56,3 +58,24 @@ pub record Next (n i j i' j' : ℕ) : Type 0 where
   pub upper : i' < j'
   pub pairs : pairsFrom n i j ≡ (i, j) ∷ pairsFrom n i' j'
   pub more : 0 < length (pairsFrom n i' j') → j' < n
+
+-- the code stands at a cell, or past the last
+pub record Stands (n allowance : ℕ) (s : Stand) : Type 0 where
+  pub at : AtCell n (s .i) (s .j) (s .left)
+  pub within : s .tries ≤ allowance
+
+-- what the search comes to from a stand on
+abbrev pub goesOn : ℕ → ℕ → List ℕ → Stand → Found
+goesOn n allowance g s = searchAt n allowance (pairsFrom n (s .i) (s .j)) g (s .tries)
+
+-- one cell further, one try later
+pub record Steps (n : ℕ) (at s : Stand) : Type 0 where
+  pub next : Next n (at .i) (at .j) (s .i) (s .j)
+  pub left : s .left ≡ at .left - 1
+  pub tries : s .tries ≡ at .tries + 1
+
+-- no further back, and what the search comes to is the same
+pub record Passes (n allowance : ℕ) (g : List ℕ) (from s : Stand) : Type 0 where
+  pub stands : Stands n allowance s
+  pub fewer : s .left ≤ from .left
+  pub same : goesOn n allowance g s ≡ goesOn n allowance g from

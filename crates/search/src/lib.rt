@@ -9,11 +9,10 @@ ghost use Rattle.grid.specs.Accepted.{Accepted, judgedNumber};
 ghost use Rattle.theory.specs.Allen.{allen};
 ghost use Rattle.theory.specs.Line.{allPairs};
 ghost use Rattle.theory.specs.Quick.{run};
-ghost use Rattle.theory.specs.Search.{pairsFrom};
 ghost use Rattle.takes.specs.Steps.{ended};
-ghost use Rattle.search.specs.Rule.{enough, triedBy, tryAt, searchAt, searchOf};
+ghost use Rattle.search.specs.Rule.{enough, triedBy, tryAt, searchOf};
 ghost use Rattle.search.specs.Answers.{saidOf, searchRefusal, Looks};
-ghost use Rattle.search.specs.Steps.{saidWith, Shows, Settles, Answers, Searched, AtCell, Next};
+ghost use Rattle.search.specs.Steps.{saidWith, Shows, Settles, Answers, Searched, Stands, Steps, Passes, goesOn, Next};
 use grid::Judged;
 use refusal::Refusal;
 use relation::UNFILLED;
@@ -48,6 +47,14 @@ pub struct Cell {
     pub j: usize,
 }
 
+// Where the search stands: at cell (i, j) or past the last, with so many cells left and so many tries made.
+pub struct Stand {
+    pub i: usize,
+    pub j: usize,
+    pub left: usize,
+    pub tries: u32,
+}
+
 // Whether relation r is in the set.
 fn is_in(set: u16, r: usize) -> bool
     requires { ⌜ r < 13 ⌝ }
@@ -68,16 +75,47 @@ fn after(n: usize, i: usize, j: usize) -> Cell
     }
 }
 
-// One try: cuts cell (i, j) and its mirror to relation r, and closes from that pair. Where r is there alone, nothing is cut.
+// The next cell, one try later.
+fn step(n: usize, at: Stand) -> Stand
+    requires { ⌜ (n ≤ 32) × (at .i < at .j) × (at .j < n) × (0 < at .left) × (at .tries < 4294967295) ⌝ }
+    ensures { λ s. ⌜ Steps n at s ⌝ }
+{
+    let next = after(n, at.i, at.j);
+    let left = at.left - 1;
+    let tries = at.tries + 1;
+    Stand {
+        i: next.i,
+        j: next.j,
+        left,
+        tries,
+    }
+}
+
+// Passes over the cells that have one relation alone, each for one try: on a closed grid such a try cuts nothing.
+fn pass_decided(work: &[u16], n: usize, from: Stand, allowance: u32) -> Stand
+    requires { ⌜ Stands n allowance from × Searched n (now work) ⌝ }
+    ensures { λ s. ⌜ Passes n allowance (now (work .entry)) from s ⌝ }
+{
+    let mut at = from;
+    while 0 < at.left {
+        if at.tries == allowance {
+            return at;
+        }
+        let set = grid::get(work, n, at.i, at.j);
+        if relation::without_lowest(set) != 0 {
+            return at;
+        }
+        at = step(n, at);
+    }
+    at
+}
+
+// One try: cuts cell (i, j) and its mirror to relation r, and closes from that pair.
 fn attempt(rows: &[u16; 2496], g: &mut [u16], n: usize, i: usize, j: usize, r: usize) -> End
-    requires { ⌜ HalfRows (now rows) × Searched n (now g) × (i < n) × (j < n) × (i ≡ j → ⊥) × (r < 13) ⌝ }
+    requires { ⌜ HalfRows (now rows) × Held n (now g) × (i < n) × (j < n) × (i ≡ j → ⊥) × (r < 13) ⌝ }
     ensures { λ e. ⌜ triedBy (ended e (now (g .exit))) ≡ tryAt n (i, j) r (now (g .entry)) ⌝ }
 {
-    let only = relation::mark(r);
-    if grid::get(g, n, i, j) == only {
-        return End::Closed(0);
-    }
-    grid::put_both(g, n, i, j, only);
+    grid::put_both(g, n, i, j, relation::mark(r));
     let mut ring = [0u16; 1024];
     let mut flag = [0u8; 1024];
     let p = takes::pair_of(i, j);
@@ -85,34 +123,46 @@ fn attempt(rows: &[u16; 2496], g: &mut [u16], n: usize, i: usize, j: usize, r: u
     takes::takes(rows, g, &mut ring, &mut flag, n, one, ENOUGH)
 }
 
-// One try on the first n * n cells of a working grid.
-fn attempt_in(rows: &[u16; 2496], work: &mut [u16], n: usize, i: usize, j: usize, r: usize) -> End
-    requires { ⌜ HalfRows (now rows) × Held n (now work) × (i < n) × (j < n) × (i ≡ j → ⊥) × (r < 13) × Searched n (take (n * n) (now work)) ⌝ }
-    ensures { λ e. ⌜ triedBy (ended e (take (n * n) (now (work .exit)))) ≡ tryAt n (i, j) r (take (n * n) (now (work .entry))) ⌝ }
-{
-    let cells = n * n;
-    attempt(rows, &mut work[..cells], n, i, j, r)
-}
-
-// Decides the cells from (i, j) on, of which so many are left. Past the last, the placing is written to the room.
-pub fn look(
+// One try on a copy of the grid, at the front of a room for a grid.
+fn attempt_in(
     rows: &[u16; 2496],
+    g: &[u16],
+    cut: &mut [u16],
     n: usize,
     i: usize,
     j: usize,
-    left: usize,
-    work: [u16; 1024],
-    tries: u32,
+    r: usize,
+) -> End
+    requires { ⌜ HalfRows (now rows) × (length (now g) ≡ n * n) × Held n (now cut) × (i < n) × (j < n) × (i ≡ j → ⊥) × (r < 13) ⌝ }
+    ensures { λ e. ⌜ triedBy (ended e (take (n * n) (now (cut .exit)))) ≡ tryAt n (i, j) r (now (g .entry)) ⌝ }
+{
+    let cells = n * n;
+    grid::copy(cut, g, cells);
+    attempt(rows, &mut cut[..cells], n, i, j, r)
+}
+
+// Decides the cells of a closed grid from a stand on. Past the last, the placing is written to the room.
+pub fn look(
+    rows: &[u16; 2496],
+    n: usize,
+    from: Stand,
+    g: &[u16],
     allowance: u32,
     room: &mut [i32],
 ) -> Looked
-    requires { ⌜ HalfRows (now rows) × AtCell n i j left × (tries ≤ allowance) × (length (now room) ≡ 2 * n) × Searched n (take (n * n) work) ⌝ }
-    ensures { λ l. ⌜ Shows n allowance (searchAt n allowance (pairsFrom n i j) (take (n * n) work) tries) (now (room .entry)) l (now (room .exit)) ⌝ }
+    requires { ⌜ HalfRows (now rows) × Stands n allowance from × Searched n (now g) × (length (now room) ≡ 2 * n) ⌝ }
+    ensures { λ l. ⌜ Shows n allowance (goesOn n allowance (now (g .entry)) from) (now (room .entry)) l (now (room .exit)) ⌝ }
 {
+    let at = pass_decided(g, n, from, allowance);
+    let left = at.left;
+    let tries = at.tries;
     if left == 0 {
-        return settled(&work, n, tries, room);
+        return settled(g, n, tries, room);
     }
-    let set = grid::get(&work, n, i, j);
+    let i = at.i;
+    let j = at.j;
+    let cells = n * n;
+    let set = grid::get(g, n, i, j);
     let next = after(n, i, j);
     let mut used = tries;
     let mut r = 0;
@@ -125,23 +175,19 @@ pub fn look(
                 };
             }
             used += 1;
-            let mut cut = work;
-            let answer = attempt_in(rows, &mut cut, n, i, j, r);
+            let mut work = [UNFILLED; 1024];
+            let answer = attempt_in(rows, g, &mut work, n, i, j, r);
             let End::Closed(_takes) = answer else {
                 r += 1;
                 continue;
             };
-            let below = look(
-                rows,
-                n,
-                next.i,
-                next.j,
-                left - 1,
-                cut,
-                used,
-                allowance,
-                room,
-            );
+            let stand = Stand {
+                i: next.i,
+                j: next.j,
+                left: left - 1,
+                tries: used,
+            };
+            let below = look(rows, n, stand, &work[..cells], allowance, room);
             let said = below.outcome;
             match said {
                 Outcome::None => {
@@ -161,12 +207,11 @@ pub fn look(
 }
 
 // Past the last cell: the placing without gaps of the decided grid, if it meets every cell.
-fn settled(work: &[u16], n: usize, tries: u32, room: &mut [i32]) -> Looked
-    requires { ⌜ Held n (now work) × (length (now room) ≡ 2 * n) ⌝ }
-    ensures { λ l. ⌜ Settles n tries (take (n * n) (now (work .entry))) (now (room .entry)) l (now (room .exit)) ⌝ }
+fn settled(g: &[u16], n: usize, tries: u32, room: &mut [i32]) -> Looked
+    requires { ⌜ (n ≤ 32) × (length (now g) ≡ n * n) × (length (now room) ≡ 2 * n) ⌝ }
+    ensures { λ l. ⌜ Settles n tries (now (g .entry)) (now (room .entry)) l (now (room .exit)) ⌝ }
 {
-    let cells = n * n;
-    if placing::settle(&work[..cells], n, room) {
+    if placing::settle(g, n, room) {
         Looked {
             outcome: Outcome::Placed,
             tries,
@@ -228,8 +273,14 @@ fn search_accepted(g: &[u16], n: usize, allowance: u32, room: &mut [i32]) -> Pla
     let End::Closed(_takes) = first else {
         return PlaceAnswer::None(0);
     };
-    let left = (n * n - n) / 2;
-    let found = look(&rows, n, 0, 1, left, work, 0, allowance, room);
+    let cells = n * n;
+    let stand = Stand {
+        i: 0,
+        j: 1,
+        left: (cells - n) / 2,
+        tries: 0,
+    };
+    let found = look(&rows, n, stand, &work[..cells], allowance, room);
     answer_of(found)
 }
 

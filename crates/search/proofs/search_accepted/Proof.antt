@@ -41,27 +41,30 @@ returns-2 c =
     (search-from _ _ _ (sym (test .before .some-empty .ensures) ∙ test .if1 .left) _ (closing .close-copy .ensures)
     ∙ ap (fromClosed _ _) (no-grid (closing .close-copy .result) (take (s .n * s .n) (closing .close-copy .last .1 .1 .0)) (c .match .keys2)))
 
-mul-left : tie.Need-mul-left
-mul-left c = omega (arith, square _ (c .before .before .before .before .before .before .before .before .before .before .before .before .pre .0 .few) .1)
+mul-cells : tie.Need-mul-cells
+mul-cells c = omega (arith, square _ (c .before .before .before .before .before .before .before .before .before .before .before .before .pre .0 .few) .1)
 
-sub-left : tie.Need-sub-left
-sub-left c = square _ (c .before .before .before .before .before .before .before .before .before .before .before .before .pre .0 .few) .0
+sub-t18 : tie.Need-sub-t18
+sub-t18 c = square _ (c .before .before .before .before .before .before .before .before .before .before .before .before .pre .0 .few) .0
+
+array-share-prefix-work : tie.Need-array-share-prefix-work
+array-share-prefix-work c = omega (arith, c .before .before .before .before .before .close-copy .kept .1 .1 .0, square _ (c .before .before .before .before .before .before .before .before .before .before .before .before .before .pre .0 .few) .1)
+
+slice-aggregate-look : tie.Need-slice-aggregate-look
+slice-aggregate-look c = sym (length-take-le _ _ (omega (arith, c .before .before .before .before .before .before .close-copy .kept .1 .1 .0, square _ (c .before .before .before .before .before .before .before .before .before .before .before .before .before .before .pre .0 .few) .1)))
 
 look-requires : tie.Need-look-requires
 look-requires c κs =
-    let before = c .before .before .before in
-    let known = before in
-    let closing = known .before .before .before in
-    let test = closing .before .before .before .before .before in
-    let s = test .before .before .before in
+    let closing = c .before .before .before .before .before .before .before in
+    let test = c .before .before .before .before .before .before .before .before .before .before .before .before in
+    let s = c .before .before .before .before .before .before .before .before .before .before .before .before .before .before .before in
     let n = s .args .n in
     let h = closing .close-copy .last .1 .1 .0 in
     let long = length-take-le (n * n) h (omega (arith, closing .close-copy .kept .1 .1 .0, square _ (s .pre .0 .few) .1)) in (
       search needs,
-      at-first _ (s .pre .0 .few),
-      search needs,
+      record { at = at-first _ (s .pre .0 .few); within = omega arith },
+      first-searched _ _ (s .pre .0) (sym (test .before .some-empty .ensures) ∙ test .if1 .left) (closing .close-copy .result) _ (take (n * n) h) (closing .close-copy .ensures) (c .before .before .before .before .first .given .1) long,
       s .pre .1,
-      first-searched _ _ (s .pre .0) (sym (test .before .some-empty .ensures) ∙ test .if1 .left) (closing .close-copy .result) _ (take (n * n) h) (closing .close-copy .ensures) (known .first .given .1) long,
     )
 
 answer-of-requires : tie.Need-answer-of-requires
@@ -72,10 +75,10 @@ same-length c = search needs
 
 returns-3 : tie.Need-returns-3
 returns-3 c =
-    let known = c .before .before .before .before .before .before in
-    let closing = known .before .before .before in
-    let test = closing .before .before .before .before .before in
-    let s = test .before .before .before .args in
+    let known = c .before .before .before .before .before .before .before in
+    let closing = c .before .before .before .before .before .before .before .before .before .before in
+    let test = c .before .before .before .before .before .before .before .before .before .before .before .before .before .before .before in
+    let s = c .before .before .before .before .before .before .before .before .before .before .before .before .before .before .before .before .before .before .args in
     answers-shown _ _ _ _ _ _ _ _
     (search-from _ _ _ (sym (test .before .some-empty .ensures) ∙ test .if1 .left) _ (closing .close-copy .ensures)
     ∙ ap (fromClosed _ _) (a-grid (closing .close-copy .result) _ (take (s .n * s .n) (closing .close-copy .last .1 .1 .0)) (known .first .given .1)))
@@ -92,8 +95,10 @@ search-accepted-spec =
     close-copy-requires
     enum-known-first
     returns-2
-    mul-left
-    sub-left
+    mul-cells
+    sub-t18
+    array-share-prefix-work
+    slice-aggregate-look
     look-requires
     answer-of-requires
     same-length
