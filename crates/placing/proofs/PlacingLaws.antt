@@ -148,11 +148,11 @@ module _ (n : ℕ) (v w : ℕ → ℤ) (alike : Alike n v w) where
         alike (2 * j + 1) (2 * i + 1) d b,
       )
 
-  pub missed-alike : (g h : List ℕ) → ((i j : ℕ) → i < n → j < n → cell n g i j ≡ cell n h i j) → someMissed n g v ≡ someMissed n h w
-  missed-alike g h e =
-      some-same n (rowMissed n g v) (rowMissed n h w)
-      (λ i hi. some-same n (missed n g v i) (missed n h w i)
-      (λ j hj. ap₂ (λ (r a : ℕ). not (member r a)) (relationAt-alike i j hi hj) (e i j hi hj)))
+  pub missed-alike : (g : List ℕ) → someMissed n g v ≡ someMissed n g w
+  missed-alike g =
+      some-same n (rowMissed n g v) (rowMissed n g w)
+      (λ i hi. some-same n (missed n g v i) (missed n g w i)
+      (λ j hj. ap (λ (r : ℕ). not (member r (cell n g i j))) (relationAt-alike i j hi hj)))
 
 -- ---- of a list
 
