@@ -4,6 +4,7 @@ use native.Mathlib.Omega.{arith}
 use Rattle.sheet.specs.Steps.{ContentsRead, ContentsSay}
 use Rattle.sheet.specs.declared.Place.{Place}
 use Rattle.sheet.specs.declared.Place.the-variants.{At, Refused}
+use Rattle.sheet.proofs.ContentsLaws.{table-keeps}
 use Rattle.sheet.proofs.SheetLaws.{sheet-says}
 use borrow.Author.Needs.{needs}
 use Rattle.sheet.proofs.lines_into.Statement.{statement}
@@ -48,7 +49,7 @@ bodies-of-requires c κs =
     let P = c .before .before .before .before .before .before .before .before .before .before .before .before in
     let Z = S (C P) in
     let t = listed P .table in (
-      record { places = omega (arith, Z .pre .0, t .at-long); lengths = omega (arith, Z .pre .0, t .len-long); within = t .within },
+      table-keeps _ _ _ (Z .pre .0) t,
       (omega (arith, Z .pre .0, t .count-long), Z .pre .0, omega (arith, Z .pre .2, c .before .before .before .before .before .before .fill-start .kept .0), listed P .inside),
     )
 
