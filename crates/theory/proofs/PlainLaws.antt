@@ -27,7 +27,7 @@ cuts-trans A n g g₁ p none = p
 cuts-trans A n g g₁ p (more q s) = more (cuts-trans A n g g₁ p q) s
 
 module _ (A : Calculus) (inside : (a b : ℕ) → Sub A (A .meet a b) a) (size : ℕ → ℕ) (Z : Sized A size) (n : ℕ) (few : n ≤ 32) where
-  pub shrinks-less : (g g' : List ℕ) → n * n ≤ length g → Shrinks A n g g' → weight size n g' < weight size n g
+  shrinks-less : (g g' : List ℕ) → n * n ≤ length g → Shrinks A n g g' → weight size n g' < weight size n g
   shrinks-less g g' fits s =
       rw (s .is)
       (omega (
@@ -107,9 +107,6 @@ module _ (A : Calculus) (inside : (a b : ℕ) → Sub A (A .meet a b) a) (size :
                   ⊎-elim (λ h. s .1 a m b h) (λ h. subst (λ (x : List ℕ). value A n x a m b ≡ cell n x a b) (s .0) (t .1 a m b h)) (into a m b u),
             );
       }
-
-  pub progress-fits : (S : ℕ → ℕ → ℕ → Type 0) (g g' : List ℕ) (c : Bool) → n * n ≤ length g → Progress A size n S g g' c → n * n ≤ length g'
-  progress-fits S g g' c fits p = cuts-fit g fits (p .cuts)
 
 pub dead-then : (A : Calculus) (n : ℕ) (g g₁ : List ℕ) → Cuts A n g g₁ → DeadEnd A n g₁ → DeadEnd A n g
 dead-then A n g g₁ p d =

@@ -266,7 +266,8 @@ mid-start A n p few ok g q S a b c t = go (S a b c t)
     go (inr (inl w)) = ⊎-elim (λ e. inr (inl (e ∙ number, omega arith))) (λ h. inl (inr (inl h))) (waits (pairOf a c) w (ℕ-discrete (pairOf a c) p))
     go (inr (inr w)) = ⊎-elim (λ e. inr (inr (e ∙ number, omega arith))) (λ h. inl (inr (inr h))) (waits (pairOf c b) w (ℕ-discrete (pairOf c b) p))
 
-pairs-rest : (n p : ℕ) (q : List ℕ) → Pairs n (p ∷ q) → Pairs n q
+-- all that wait after the first are pairs too
+pub pairs-rest : (n p : ℕ) (q : List ℕ) → Pairs n (p ∷ q) → Pairs n q
 pairs-rest n p q Q x h = Q x (go (ℕ-discrete x p))
   where
     go : Dec (x ≡ p) → 0 < occurs x (p ∷ q)
