@@ -8,7 +8,8 @@ use native.Mathlib.Omega.{arith}
 use native.Mathlib.Decide.{ℕ-discrete}
 use borrow.Author.Tests.{eq-eqb, ne-eqb}
 use lib.ListN.{length, length-append}
-use Rattle.theory.specs.Line.{pairOf, one-if, occurs, joins}
+use Rattle.relation.specs.Sets.{digit}
+use Rattle.theory.specs.Line.{pairOf, occurs, joins}
 
 -- the number of a pair of two of n events
 abbrev pub IsPair : ℕ → ℕ → Type 0
@@ -21,7 +22,7 @@ occurs-append p (x ∷ q) r = omega (arith, occurs-append p q r)
 
 pub occurs-cons-same : (p : ℕ) (q : List ℕ) → occurs p (p ∷ q) ≡ 1 + occurs p q
 unfolding occurs
-occurs-cons-same p q = ap (λ (b : Bool). one-if b + occurs p q) (eq-eqb p p refl)
+occurs-cons-same p q = ap (λ (b : Bool). digit b + occurs p q) (eq-eqb p p refl)
 
 pub occurs-cons-other : (c p : ℕ) (q : List ℕ) → (c ≡ p → ⊥) → occurs c (p ∷ q) ≡ occurs c q
 unfolding occurs

@@ -17,8 +17,20 @@ use Rattle.theory.proofs.Lawful.{Lawful, EqLawful}
 use Rattle.theory.proofs.LineLaws.{IsPair, joins-keeps, joins-here, joins-only, occurs-cons-same, occurs-cons-other, occurs-nil, pair-comm, pair-same, pair-swap, pair-r, pair-events, pair-ok}
 use Rattle.theory.proofs.QuickLaws.{turn-skip-i, turn-skip-j, turn-is}
 
+-- (a, b) lies inside what (a, c) with (c, b) allows
 abbrev pub Via : Calculus → ℕ → List ℕ → ℕ → ℕ → ℕ → Type 0
 Via A n g a b c = Sub A (cell n g a b) (A .comp a c b (cell n g a c) (cell n g c b))
+
+-- routes with two equal events always hold, so those over three different ones are enough
+pub closed-apart : (A : Calculus) → EqLawful A → (n : ℕ) (g₀ g : List ℕ) → Good A n g₀ g → ((i j k : ℕ) → Distinct n i j k → Via A n g i j k)
+    → Closed A n (cell n g)
+closed-apart A E n g₀ g G apart i j k hi hj hk = go (ℕ-discrete i k) (ℕ-discrete k j) (ℕ-discrete i j)
+  where
+    go : Dec (i ≡ k) → Dec (k ≡ j) → Dec (i ≡ j) → Via A n g i j k
+    go (yes p) d e = rw (← p, G .diagonal i hi) (E .eq-l i j (cell n g i j) (G .topped i j hi hj))
+    go (no p) (yes q) e = rw (q, G .diagonal j hj) (E .eq-r i j (cell n g i j) (G .topped i j hi hj))
+    go (no p) (no q) (yes e) = rw (← e, G .diagonal i hi, G .reached .mirrored i k hi hk) (E .eq-in i k (cell n g i k) (G .topped i k hi hk) (G .full i k hi hk))
+    go (no p) (no q) (no e) = apart i j k (record { ha = hi; hb = hj; hc = hk; ab = e; bc = λ z. q (sym z); ac = p })
 
 abbrev pub Waits : List ℕ → ℕ → ℕ → Type 0
 Waits q a b = 0 < occurs (pairOf a b) q
@@ -282,20 +294,13 @@ take-ok A L n few g₀ g p q R =
     (record { good = R .good; pairs = pairs-rest n p q (R .pairs); mid = mid-start A n p few ok g q (R .settled) })
 
 -- nothing waits: closed
-pub resting-closed : (A : Calculus) → EqLawful A → (n : ℕ) (g₀ g : List ℕ) → Resting A n g₀ g [] → Closed A n (cell n g)
-resting-closed A E n g₀ g R i j k hi hj hk = go (ℕ-discrete i k) (ℕ-discrete k j) (ℕ-discrete i j)
+resting-closed : (A : Calculus) → EqLawful A → (n : ℕ) (g₀ g : List ℕ) → Resting A n g₀ g [] → Closed A n (cell n g)
+resting-closed A E n g₀ g R = closed-apart A E n g₀ g (R .good) (λ i j k d. via i j k (R .settled i j k d))
   where
-    apart : Served A n g [] i j k → Via A n g i j k
-    apart (inl v) = v
-    apart (inr (inl w)) = absurd (omega (arith, w, occurs-nil (pairOf i k)))
-    apart (inr (inr w)) = absurd (omega (arith, w, occurs-nil (pairOf k j)))
-
-    go : Dec (i ≡ k) → Dec (k ≡ j) → Dec (i ≡ j) → Via A n g i j k
-    go (yes p) d e = rw (← p, R .good .diagonal i hi) (E .eq-l i j (cell n g i j) (R .good .topped i j hi hj))
-    go (no p) (yes q) e = rw (q, R .good .diagonal j hj) (E .eq-r i j (cell n g i j) (R .good .topped i j hi hj))
-    go (no p) (no q) (yes e) =
-        rw (← e, R .good .diagonal i hi, R .good .reached .mirrored i k hi hk) (E .eq-in i k (cell n g i k) (R .good .topped i k hi hk) (R .good .full i k hi hk))
-    go (no p) (no q) (no e) = apart (R .settled i j k (record { ha = hi; hb = hj; hc = hk; ab = e; bc = λ z. q (sym z); ac = p }))
+    via : (i j k : ℕ) → Served A n g [] i j k → Via A n g i j k
+    via i j k (inl v) = v
+    via i j k (inr (inl w)) = absurd (omega (arith, w, occurs-nil (pairOf i k)))
+    via i j k (inr (inr w)) = absurd (omega (arith, w, occurs-nil (pairOf k j)))
 
 -- how a run ends
 abbrev pub Right : Calculus → ℕ → List ℕ → Ended → Type 0
