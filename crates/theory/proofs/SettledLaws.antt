@@ -9,7 +9,7 @@ use Rattle.grid.specs.Cells.{cell, putBoth}
 use Rattle.theory.specs.Calculus.{Calculus, Sub}
 use Rattle.theory.specs.Closing.{Closed, Closing}
 use Rattle.theory.specs.Line.{joins, pairOf, occurs}
-use Rattle.theory.specs.Quick.{cutTo, Out, dead, going, andThen, cut, turn, turns, take, run, goOn, Ended, contradiction, closed, paused}
+use Rattle.theory.specs.Quick.{cutTo, Out, dead, going, andThen, cut, cutBack, turn, turns, take, run, goOn, Ended, contradiction, closed, paused}
 use Rattle.theory.specs.Sweeps.{Distinct}
 use Rattle.theory.proofs.ClosingLaws.{IsCut, cut-within, mirror-cut, reached-closed, sub-trans, sub-meet-r}
 use Rattle.theory.proofs.KeepLaws.{Good, Came, same, emptied, shrank, came, is-cut, good-shrank, good-dead}
@@ -231,9 +231,13 @@ module _ (A : Calculus) (L : Lawful A) (n : ℕ) (few : n ≤ 32) (g₀ : List �
     second g q g₁ q₁ M s₁ dead z = z
     second g q g₁ q₁ M s₁ (going g₂ q₂) s₂ = record { good = s₂ .good; pairs = s₂ .pairs; mid = mid-turn g q g₁ q₁ g₂ q₂ s₁ s₂ M }
 
-    first : (g q : List ℕ) → Mid A n i j k g q → (o : Out) → After A n g₀ g q i j k o → Turned A n g₀ i j (suc k) (andThen o (cut A n k i j))
+    -- the second cut: what was served is, and (k, j) joins if it shrank
+    back-ok : (g q : List ℕ) → Good A n g₀ g → Pairs n q → After A n g₀ g q k i j (cutBack A n i j k g q)
+    back-ok g q G Q = cut-ok A L n few g₀ g q G Q k i j d₂
+
+    first : (g q : List ℕ) → Mid A n i j k g q → (o : Out) → After A n g₀ g q i j k o → Turned A n g₀ i j (suc k) (andThen o (cutBack A n i j k))
     first g q M dead z = z
-    first g q M (going g₁ q₁) s₁ = second g q g₁ q₁ M s₁ (cut A n k i j g₁ q₁) (cut-ok A L n few g₀ g₁ q₁ (s₁ .good) (s₁ .pairs) k i j d₂)
+    first g q M (going g₁ q₁) s₁ = second g q g₁ q₁ M s₁ (cutBack A n i j k g₁ q₁) (back-ok g₁ q₁ (s₁ .good) (s₁ .pairs))
 
   turn-ok : (k : ℕ) → k < n → (g q : List ℕ) → Between A n g₀ i j k g q → Turned A n g₀ i j (suc k) (turn A n i j k g q)
   turn-ok k hk g q B = go (ℕ-discrete k i) (ℕ-discrete k j)
