@@ -50,12 +50,11 @@ fn told_plain(answer: PlainAnswer) -> Told {
 }
 
 fn send_told(told: Told, cells: &[u16]) {
-    let mut out = [0u8; 2205];
+    let mut out = [0u8; 5 + 2 * CELLS];
     if CELLS < cells.len() {
         return;
     }
-    cases::write8(&mut out, 0, told.kind);
-    cases::write32(&mut out, 1, told.value);
+    cases::write_kind(&mut out, told.kind, told.value);
     cases::write16s(&mut out, 5, cells);
     cases::send(&out, 5 + 2 * cells.len());
 }
@@ -90,11 +89,11 @@ fn answered() -> bool {
     if CELLS < count {
         return false;
     }
-    let mut bytes = [0u8; 2200];
+    let mut bytes = [0u8; 2 * CELLS];
     if !cases::receive(&mut bytes, 2 * count) {
         return false;
     }
-    let mut cells = [0u16; 1100];
+    let mut cells = [0u16; CELLS];
     close_front(&bytes, &mut cells, count, n, limit);
     true
 }

@@ -126,8 +126,7 @@ fn name_start(bytes: &[u8], i: usize) -> usize {
 
 fn send_told(told: Told, sum: u32, start: usize, name: &[u8]) {
     let mut out = [0u8; 64];
-    cases::write8(&mut out, 0, told.kind);
-    cases::write32(&mut out, 1, told.value);
+    cases::write_kind(&mut out, told.kind, told.value);
     cases::write32(&mut out, 5, told.line);
     cases::write32(&mut out, 9, sum);
     cases::write32(&mut out, 13, small(start));
