@@ -11,8 +11,8 @@ use lib.ListN.{length, take, drop, getD, length-append, List·getD-append}
 use lib.Seq.{take-take, getD-at}
 use Rattle.text.specs.Text.{isNumber, value}
 use Rattle.text.specs.Names.{longestName, isName}
-use Rattle.text.specs.Steps.{PartEnd, until}
-use Rattle.text.proofs.PartLaws.{part-end, part-length}
+use Rattle.text.specs.Steps.{PartEnd}
+use Rattle.text.proofs.PartLaws.{until, part-end, part-length}
 use Rattle.text.proofs.TextLaws.{both, name-length}
 use Rattle.sheet.specs.Sheet.{Statement, accepted, mostStatements, lf, space, parts, fields, field, firstFault, nameIn, countIn, isEntry, listed, entryFault, owners, next, lineFault, contents, sheet}
 use Rattle.sheet.specs.Answers.{nameStart}

@@ -12,9 +12,14 @@ use lib.ListN.{length, take, drop, getD, drop-of-length-le, length-drop}
 use lib.Seq.{drop-cons, drop-drop, drop-nil, take-all, take-nil, length-take-le}
 use borrow.Author.Tests.{lt-ltb, le-ltb, eq-eqb, ne-eqb}
 use Rattle.text.specs.Text.{split, onto}
-use Rattle.text.specs.Steps.{until, after, PartEnd}
+use Rattle.text.specs.Steps.{after, PartEnd}
 
 -- ---- counting up to the byte c
+
+-- how many bytes stand before the first c, or all of them
+abbrev pub until : ℕ → List ℕ → ℕ
+until c [] = zero
+until c (x ∷ xs) = cond (eqb x c) zero (suc (until c xs))
 
 module _ (c : ℕ) (s : List ℕ) (i : ℕ) where
   pub until-stop : i < length s → getD s i 0 ≡ c → until c (drop i s) ≡ 0
