@@ -46,7 +46,7 @@ is-listOf k f xs l e =
     ext-getD (pos 0) xs (listOf k f) (l ∙ sym (listOf-length k f))
     (λ p h. let m : p < k = omega (arith, l) in e p m ∙ sym (listOf-at k f p m))
 
-pub placing-length : (n : ℕ) (g : List ℕ) → length (placingOf n g) ≡ 2 * n
+placing-length : (n : ℕ) (g : List ℕ) → length (placingOf n g) ≡ 2 * n
 unfolding placingOf
 placing-length n g = listOf-length (2 * n) (gaplessEnd n g)
 
@@ -180,7 +180,7 @@ module _ (n : ℕ) (g : List ℕ) (S : Scenario n g) (P : ℕ → Event) (M : Me
       ∙ sym (count-keeps ends-lt ends-weak (2 * n) p q hp hq)
 
   -- and the grid is settled
-  pub placed-settles : settles n g ≡ true
+  placed-settles : settles n g ≡ true
   unfolding settles
   placed-settles =
       ap₂ (λ (x y : Bool). not x && not y)

@@ -37,7 +37,7 @@ looked-up n g counts belows few C B p h =
     }
 
 -- the room, filled with the numbers, holds the placing
-pub copied-placing : (n : ℕ) (g : List ℕ) (room after xs : List ℤ) → length room ≡ 2 * n → Numbers n g xs → Copied room after xs
+copied-placing : (n : ℕ) (g : List ℕ) (room after xs : List ℤ) → length room ≡ 2 * n → Numbers n g xs → Copied room after xs
     → after ≡ placingOf n g
 unfolding placingOf
 copied-placing n g room after xs l N C =
@@ -52,7 +52,7 @@ module _ (n : ℕ) (g : List ℕ) (xs : List ℤ) (N : Numbers n g xs) where
   numbers-alike : Alike n (gaplessEnd n g) (at xs)
   numbers-alike = alike-equal n (gaplessEnd n g) (at xs) (λ p h. sym (N .each p h))
 
-  pub settles-tests : settles n g ≡ (not (someLate n (at xs)) && not (someMissed n g (at xs)))
+  settles-tests : settles n g ≡ (not (someLate n (at xs)) && not (someMissed n g (at xs)))
   unfolding settles
   settles-tests =
       ap₂ (λ (x y : Bool). not x && not y) (late-alike n (gaplessEnd n g) (at xs) numbers-alike)

@@ -222,6 +222,7 @@ fn some_missed(g: &[u16], n: usize, placing: &[i32]) -> bool
     false
 }
 
+// One of the four sets, by start (0) or end (1) of X and of Y.
 fn earlier(e: usize, f: usize) -> u16
     requires { ⌜ (e < 2) × (f < 2) ⌝ }
     ensures { λ a. ⌜ a ≡ earlier e f ⌝ }

@@ -36,13 +36,13 @@ module _ (A : Calculus) (L : Lawful A) where
   sub-antisym : (a b : ℕ) → Sub A a b → Sub A b a → a ≡ b
   sub-antisym a b p q = cc (L .meet-comm a b)
 
-  pub sub-meet-l : (a b : ℕ) → Sub A (A .meet a b) a
+  sub-meet-l : (a b : ℕ) → Sub A (A .meet a b) a
   sub-meet-l a b = cc (L .meet-comm (A .meet a b) a, L .meet-assoc a a b, L .meet-self a)
 
   pub sub-meet-r : (a b : ℕ) → Sub A (A .meet a b) b
   sub-meet-r a b = cc (L .meet-assoc a b b, L .meet-self b)
 
-  pub sub-meet : (d a b : ℕ) → Sub A d a → Sub A d b → Sub A d (A .meet a b)
+  sub-meet : (d a b : ℕ) → Sub A d a → Sub A d b → Sub A d (A .meet a b)
   sub-meet d a b p q = cc (L .meet-assoc d a b)
 
   pub sub-zero : (a : ℕ) → Sub A a 0 → a ≡ 0
@@ -82,7 +82,7 @@ module _ (A : Calculus) (L : Lawful A) where
     pub reached-closed : (G₀ G : Cells) → Reached A n G₀ G → Closed A n G → Closing A n G₀ G
     reached-closed G₀ G r c = record { closed = c; inside = r .inside; largest = r .keeps }
 
-    pub zero-closed : Closed A n (λ i j. 0)
+    zero-closed : Closed A n (λ i j. 0)
     zero-closed i j k hi hj hk = L .meet-comm 0 (A .comp i k j 0 0) ∙ L .meet-zero (A .comp i k j 0 0)
 
     -- an empty cell on the way: the closing is empty throughout
@@ -139,7 +139,7 @@ module _ (A : Calculus) (L : Lawful A) where
       allowed D cl w a b c ha hb hc =
           sub-meet _ _ _ (w a b ha hb) (sub-trans _ _ _ (cl a b c ha hb hc) (L .comp-mono a c b _ _ _ _ (w a c ha hc) (w c b hc hb)))
 
-      pub cut-keeps : (D : Cells) → Closed A n D → Within A n D G → Within A n D G'
+      cut-keeps : (D : Cells) → Closed A n D → Within A n D G → Within A n D G'
       cut-keeps D cl w =
           put-cases G G' i k (cutTo A G i j k) c (λ a b x. Sub A (D a b) x) (allowed D cl w i k j hi hk hj) (rw mirror-cut (allowed D cl w k i j hk hi hj)) (λ a b ha hb p q. w a b ha hb)
 

@@ -61,7 +61,7 @@ module _ (A : Calculus) (L : Lawful A) (n : ℕ) (g₀ g : List ℕ) (G : Good A
   pub is-cut : IsCut A n (cell n g) (cell n g') a m b
   is-cut = put-cut A n g (G .fits) a m b ha hb ne
 
-  pub reached-put : Reached A n (cell n g₀) (cell n g')
+  reached-put : Reached A n (cell n g₀) (cell n g')
   reached-put = reached-cut A L n (cell n g₀) (cell n g) (cell n g') a m b ha hm hb (G .reached) is-cut
 
   fits-both : n * n ≤ length g'

@@ -60,8 +60,9 @@ pair-same p q = ap₂ pairOf p q
 pub pair-swap : {a b x y : ℕ} → a ≡ y → b ≡ x → pairOf a b ≡ pairOf x y
 pair-swap {a} {b} p q = pair-comm a b ∙ ap₂ pairOf q p
 
-pub pair-r : (a b y : ℕ) → a < 32 → b < 32 → y < 32 → pairOf a b ≡ pairOf a y → b ≡ y
-pair-r a b y ha hb hy e = omega arith
+-- pairs with one event in common
+pub pair-second : (a b y : ℕ) → a < 32 → b < 32 → y < 32 → pairOf a b ≡ pairOf a y → b ≡ y
+pair-second a b y ha hb hy e = omega arith
 
 pub pair-events : (a b x y : ℕ) → a < 32 → b < 32 → x < 32 → y < 32 → pairOf a b ≡ pairOf x y → ((a ≡ x) × (b ≡ y)) ⊎ ((a ≡ y) × (b ≡ x))
 pair-events a b x y ha hb hx hy e = go (ℕ-discrete a x) (ℕ-discrete a y)
@@ -70,8 +71,8 @@ pair-events a b x y ha hb hx hy e = go (ℕ-discrete a x) (ℕ-discrete a y)
     none p q = omega arith
 
     go : Dec (a ≡ x) → Dec (a ≡ y) → ((a ≡ x) × (b ≡ y)) ⊎ ((a ≡ y) × (b ≡ x))
-    go (yes p) d = inl (p, pair-r a b y ha hb hy (e ∙ pair-same (sym p) refl))
-    go (no p) (yes q) = inr (q, pair-r a b x ha hb hx (e ∙ pair-swap refl (sym q)))
+    go (yes p) d = inl (p, pair-second a b y ha hb hy (e ∙ pair-same (sym p) refl))
+    go (no p) (yes q) = inr (q, pair-second a b x ha hb hx (e ∙ pair-swap refl (sym q)))
     go (no p) (no q) = absurd (none p q)
 
 pub pair-ok : (n x y : ℕ) → n ≤ 32 → x < n → y < n → (x ≡ y → ⊥) → IsPair n (pairOf x y)

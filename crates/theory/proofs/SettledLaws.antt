@@ -14,7 +14,7 @@ use Rattle.theory.specs.Sweeps.{Distinct}
 use Rattle.theory.proofs.ClosingLaws.{IsCut, cut-within, mirror-cut, reached-closed, sub-trans, sub-meet-r}
 use Rattle.theory.proofs.KeepLaws.{Good, Came, same, emptied, shrank, came, is-cut, good-shrank, good-dead}
 use Rattle.theory.proofs.Lawful.{Lawful, EqLawful}
-use Rattle.theory.proofs.LineLaws.{IsPair, joins-keeps, joins-here, joins-only, occurs-cons-same, occurs-cons-other, occurs-nil, pair-comm, pair-same, pair-swap, pair-r, pair-events, pair-ok}
+use Rattle.theory.proofs.LineLaws.{IsPair, joins-keeps, joins-here, joins-only, occurs-cons-same, occurs-cons-other, occurs-nil, pair-comm, pair-same, pair-swap, pair-second, pair-events, pair-ok}
 use Rattle.theory.proofs.QuickLaws.{turn-skip-i, turn-skip-j, turn-is}
 
 -- (a, b) lies inside what (a, c) with (c, b) allows
@@ -111,10 +111,10 @@ module _ (A : Calculus) (L : Lawful A) (n : ℕ) (few : n ≤ 32) (g₀ g q : Li
 
   -- the two pairs of the route are not the pair that is cut
   not-xm : pairOf x m ≡ pairOf x y → ⊥
-  not-xm e = d .bc (sym (pair-r x m y bx bm by e))
+  not-xm e = d .bc (sym (pair-second x m y bx bm by e))
 
   not-my : pairOf m y ≡ pairOf x y → ⊥
-  not-my e = d .ac (sym (pair-r y m x by bm bx (pair-comm y m ∙ e ∙ pair-comm x y)))
+  not-my e = d .ac (sym (pair-second y m x by bm bx (pair-comm y m ∙ e ∙ pair-comm x y)))
 
   there-shrank : Via A n g' x y m
   there-shrank = rw (other x m (d .ha) (d .hc) not-xm, other m y (d .hc) (d .hb) not-my, cutted .here) (sub-meet-r A L _ _)
@@ -255,7 +255,7 @@ module _ (A : Calculus) (L : Lawful A) (n : ℕ) (few : n ≤ 32) (g₀ : List �
       go (inr (inl o)) = absurd (omega (arith, o .1, t .hb))
       go (inr (inr o)) = absurd (omega (arith, o .1, t .ha))
 
-  pub turns-ok : (f k : ℕ) → k + f ≡ n → (g q : List ℕ) → Between A n g₀ i j k g q → Taken A n g₀ (turns A n i j f k g q)
+  turns-ok : (f k : ℕ) → k + f ≡ n → (g q : List ℕ) → Between A n g₀ i j k g q → Taken A n g₀ (turns A n i j f k g q)
   unfolding turns
   turns-ok zero k e g q B =
       let z : k ≡ n = omega arith in

@@ -110,7 +110,7 @@ module _ (A : Calculus) (L : Lawful A) (size : ℕ → ℕ) (S : Sized A size) (
           cutted .rest (p / 32) (p % 32) (pair-low n p ok) (ok .1) (λ w. np (sym number ∙ pair-same (w .0) (w .1))) (λ w. np (sym number ∙ pair-swap (w .0) (w .1))) in
           rw e (le-refl _)
 
-      pub store-falls : store size n g' (joins (pairOf x y) q) ≤ store size n g q
+      store-falls : store size n g' (joins (pairOf x y) q) ≤ store size n g q
       store-falls =
           omega (
             arith,
@@ -146,7 +146,7 @@ module _ (A : Calculus) (n : ℕ) (I : List ℕ → List ℕ → Type 0) (each :
     turns-keep zero k e g q w = w
     turns-keep (suc f) k e g q w = kept-then (turn A n i j k g q) (turns A n i j f (suc k)) (turn-keeps k (omega arith) g q w) (turns-keep f (suc k) (omega arith))
 
-  pub take-keeps : (p : ℕ) → IsPair n p → (g q : List ℕ) → I g q → Kept I (take A n p g q)
+  take-keeps : (p : ℕ) → IsPair n p → (g q : List ℕ) → I g q → Kept I (take A n p g q)
   unfolding take
   take-keeps p ok g q w = turns-keep (p / 32) (p % 32) (pair-low n p ok) (ok .1) (λ e. omega (arith, ok)) n 0 (omega arith) g q w
 

@@ -61,7 +61,7 @@ module _ (A : Calculus) (L : Lawful A) (n : ℕ) (h : List ℕ) (F : Fine A n h)
   mirrored : Mirrored A n (cell n g)
   mirrored = put-mirrored A L n (cell n h) (cell n g) x y v is-put (F .mirrored) back
 
-  pub cut-fine : Fine A n g
+  cut-fine : Fine A n g
   cut-fine =
       record {
         few = F .few;
