@@ -18,6 +18,7 @@ struct Told {
     value: u32,
 }
 
+// Takes are far below 2 to the power 32; the remainder only shows that they fit.
 fn told_takes(kind: u8, t: usize) -> Told {
     Told {
         kind,
@@ -69,6 +70,7 @@ fn close_both(bytes: &[u8], cells: &mut [u16], n: usize, limit: usize)
     send_told(told_plain(plain::plain_close(cells, n)), cells);
 }
 
+// The same, for the first cells of a longer room.
 fn close_front(bytes: &[u8], cells: &mut [u16], count: usize, n: usize, limit: usize)
     requires { ⌜ 2 * length (now cells) ≤ length (now bytes) ⌝ }
 {

@@ -23,6 +23,7 @@ fn bits_of(x: i32) -> u32 {
     }
 }
 
+// The numbers come after the kind and its number.
 fn write_numbers(out: &mut [u8], xs: &[i32])
     requires { ⌜ 5 + 4 * length (now xs) ≤ length (now out) ⌝ }
 {
@@ -56,6 +57,7 @@ fn search_case(g: &[u16], n: usize, allowance: u32, room: &mut [i32]) {
     cases::send(&out, 5 + 4 * room.len());
 }
 
+// The same, for the first cells and numbers of longer rooms.
 fn search_front(g: &[u16], cells: usize, n: usize, allowance: u32, room: &mut [i32], numbers: usize)
     requires { ⌜ (cells ≤ length (now g)) × (numbers ≤ length (now room)) ⌝ }
 {
