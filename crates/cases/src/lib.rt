@@ -1,9 +1,11 @@
-// What the programs of the gate share: numbers in bytes, low byte first, and whole reads and writes.
+// What the programs of the gate share: numbers in bytes, low byte first, and whole reads and writes. What they write is compared
+// with stored answers, so the contracts here say only that nothing lies past a room.
 use libc::STDIN_FILENO;
 use libc::STDOUT_FILENO;
 ghost use Prim.Native.Nat.{_+_, _*_, _≤_};
 ghost use lib.ListN.{length};
 
+// A byte in more bits, and that it is at most 255, so that sums of bytes fit.
 fn wide(x: u8) -> u32
     ensures { λ r. ⌜ r ≤ 255 ⌝ }
 {
@@ -50,21 +52,23 @@ pub fn write32(out: &mut [u8], at: usize, x: u32)
     out[at + 3] = (x / 16777216 % 256) as u8;
 }
 
+// Writes what kind of answer came, and its number.
+pub fn write_kind(out: &mut [u8], kind: u8, value: u32)
+    requires { ⌜ 5 ≤ length (now out) ⌝ }
+{
+    write8(out, 0, kind);
+    write32(out, 1, value);
+}
+
 // Fills the cells from the bytes.
 pub fn read16s(bytes: &[u8], cells: &mut [u16])
     requires { ⌜ 2 * length (now cells) ≤ length (now bytes) ⌝ }
 {
     let mut k = 0;
     while k < cells.len() {
-        put(cells, k, read16(bytes, 2 * k));
+        cells[k] = read16(bytes, 2 * k);
         k += 1;
     }
-}
-
-fn put(cells: &mut [u16], k: usize, x: u16)
-    requires { ⌜ k + 1 ≤ length (now cells) ⌝ }
-{
-    cells[k] = x;
 }
 
 // Writes the cells from a place on.

@@ -18,6 +18,7 @@ struct Told {
     value: u32,
 }
 
+// Takes are far below 2 to the power 32; the remainder only shows that they fit.
 fn told_takes(kind: u8, t: usize) -> Told {
     Told {
         kind,
@@ -50,12 +51,11 @@ fn told_plain(answer: PlainAnswer) -> Told {
 }
 
 fn send_told(told: Told, cells: &[u16]) {
-    let mut out = [0u8; 2205];
+    let mut out = [0u8; 5 + 2 * CELLS];
     if CELLS < cells.len() {
         return;
     }
-    cases::write8(&mut out, 0, told.kind);
-    cases::write32(&mut out, 1, told.value);
+    cases::write_kind(&mut out, told.kind, told.value);
     cases::write16s(&mut out, 5, cells);
     cases::send(&out, 5 + 2 * cells.len());
 }
@@ -70,6 +70,7 @@ fn close_both(bytes: &[u8], cells: &mut [u16], n: usize, limit: usize)
     send_told(told_plain(plain::plain_close(cells, n)), cells);
 }
 
+// The same, for the first cells of a longer room.
 fn close_front(bytes: &[u8], cells: &mut [u16], count: usize, n: usize, limit: usize)
     requires { ⌜ 2 * length (now cells) ≤ length (now bytes) ⌝ }
 {
@@ -90,11 +91,11 @@ fn answered() -> bool {
     if CELLS < count {
         return false;
     }
-    let mut bytes = [0u8; 2200];
+    let mut bytes = [0u8; 2 * CELLS];
     if !cases::receive(&mut bytes, 2 * count) {
         return false;
     }
-    let mut cells = [0u16; 1100];
+    let mut cells = [0u16; CELLS];
     close_front(&bytes, &mut cells, count, n, limit);
     true
 }

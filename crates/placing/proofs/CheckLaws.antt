@@ -2,7 +2,7 @@
 use mathlib.Core.Path.{_≡_, refl, sym, ap, _∙_}
 use mathlib.Core.Bool.{Bool, true, false}
 use mathlib.Core.List.{List}
-use Prim.Native.Nat.{ℕ, _*_, _≤_}
+use Prim.Native.Nat.{ℕ, _*_, _≤_, _<_}
 use native.Mathlib.Omega.{arith}
 use borrow.Author.Tests.{eq-eqb, ne-eqb, eqb-true}
 use lib.Dec.{eqb}
@@ -10,25 +10,29 @@ use lib.ListN.{length}
 use lib.IntN.{ℤ}
 use Rattle.refusal.proofs.NumberLaws.{number-pos, number-unique}
 use Rattle.relation.specs.Meaning.{pickℕ}
-use Rattle.grid.specs.Accepted.{sizeRefusal, cellRefusal, firstOf}
-use Rattle.grid.proofs.AcceptedLaws.{sized, first-next, first-none}
+use Rattle.grid.specs.Accepted.{sizeRefusal, cellRefusal}
+use Rattle.grid.proofs.AcceptedLaws.{sized, first-here, first-next, first-none}
 use Rattle.placing.specs.Placing.{at}
-use Rattle.placing.specs.Checking.{lengthRefusal, someLate, checkRefusal, CheckSays}
+use Rattle.placing.specs.Checking.{lengthRefusal, someLate, restRefusal, checkRefusal, CheckSays}
 use Rattle.placing.specs.declared.CheckAnswer.{CheckAnswer}
 use Rattle.placing.specs.declared.CheckAnswer.the-variants.{Meets as meets, Misses as misses, Refused as refused}
 
 -- ---- refusals 1, 2 and 6
 
 module _ (n : ℕ) (g : List ℕ) (m : ℕ) where
-  pub length-is : lengthRefusal n g m ≡ firstOf (sizeRefusal n g) (pickℕ (eqb m (2 * n)) 0 6)
+  -- what the size refuses comes before the number of numbers
+  pub length-size : (k : ℕ) → sizeRefusal n g ≡ k → 0 < k → lengthRefusal n g m ≡ k
   unfolding lengthRefusal
-  length-is = refl
+  length-size k e h = first-here (sizeRefusal n g) (pickℕ (eqb m (2 * n)) 0 6) (omega arith) ∙ e
 
-  pub length-wrong : sizeRefusal n g ≡ 0 → (m ≡ 2 * n → ⊥) → lengthRefusal n g m ≡ 6
-  length-wrong s ne = length-is ∙ first-next (sizeRefusal n g) (pickℕ (eqb m (2 * n)) 0 6) s ∙ ap (λ (x : Bool). pickℕ x 0 6) (ne-eqb m (2 * n) ne)
+  module _ (s : sizeRefusal n g ≡ 0) where
+    pub length-wrong : (m ≡ 2 * n → ⊥) → lengthRefusal n g m ≡ 6
+    unfolding lengthRefusal
+    length-wrong ne = first-next (sizeRefusal n g) (pickℕ (eqb m (2 * n)) 0 6) s ∙ ap (λ (x : Bool). pickℕ x 0 6) (ne-eqb m (2 * n) ne)
 
-  pub length-right : sizeRefusal n g ≡ 0 → m ≡ 2 * n → lengthRefusal n g m ≡ 0
-  length-right s e = length-is ∙ first-next (sizeRefusal n g) (pickℕ (eqb m (2 * n)) 0 6) s ∙ ap (λ (x : Bool). pickℕ x 0 6) (eq-eqb m (2 * n) e)
+    pub length-right : m ≡ 2 * n → lengthRefusal n g m ≡ 0
+    unfolding lengthRefusal
+    length-right e = first-next (sizeRefusal n g) (pickℕ (eqb m (2 * n)) 0 6) s ∙ ap (λ (x : Bool). pickℕ x 0 6) (eq-eqb m (2 * n) e)
 
   -- no refusal for the lengths
   pub record Lengths : Type 0 where
@@ -37,8 +41,9 @@ module _ (n : ℕ) (g : List ℕ) (m : ℕ) where
     pub numbers : m ≡ 2 * n
 
   pub lengths : lengthRefusal n g m ≡ 0 → Lengths
+  unfolding lengthRefusal
   lengths e =
-      let both = first-none (sizeRefusal n g) (pickℕ (eqb m (2 * n)) 0 6) (sym length-is ∙ e) in
+      let both = first-none (sizeRefusal n g) (pickℕ (eqb m (2 * n)) 0 6) e in
       let s = sized n g (both .0) in
       record { few = s .few; long = s .long; numbers = go (eqb m (2 * n)) refl (both .1) }
     where
@@ -46,27 +51,51 @@ module _ (n : ℕ) (g : List ℕ) (m : ℕ) where
       go true f z = eqb-true m (2 * n) f
       go false f z = absurd (omega arith)
 
--- ---- all of them
+-- ---- refusals 3, 4, 5 and 7
 
 module _ (n : ℕ) (g : List ℕ) (xs : List ℤ) where
-  pub check-is : checkRefusal n g xs ≡ firstOf (lengthRefusal n g (length xs)) (firstOf (cellRefusal n g) (pickℕ (someLate n (at xs)) 7 0))
-  unfolding checkRefusal
-  check-is = refl
+  -- a faulty cell comes before a late start
+  pub rest-cell : (k : ℕ) → cellRefusal n g ≡ k → 0 < k → restRefusal n g xs ≡ k
+  unfolding restRefusal
+  rest-cell k e h = first-here (cellRefusal n g) (pickℕ (someLate n (at xs)) 7 0) (omega arith) ∙ e
 
-  -- none: the lengths are right, and no start is late
-  pub check-lengths : checkRefusal n g xs ≡ 0 → Lengths n g (length xs)
-  check-lengths e =
-      lengths n g (length xs)
-      (first-none (lengthRefusal n g (length xs)) (firstOf (cellRefusal n g) (pickℕ (someLate n (at xs)) 7 0)) (sym check-is ∙ e) .0)
+  module _ (e : cellRefusal n g ≡ 0) where
+    pub rest-late : someLate n (at xs) ≡ true → restRefusal n g xs ≡ 7
+    unfolding restRefusal
+    rest-late l = first-next (cellRefusal n g) (pickℕ (someLate n (at xs)) 7 0) e ∙ ap (λ (x : Bool). pickℕ x 7 0) l
 
-  pub check-on-time : checkRefusal n g xs ≡ 0 → someLate n (at xs) ≡ false
-  check-on-time e =
-      let rest = first-none (lengthRefusal n g (length xs)) (firstOf (cellRefusal n g) (pickℕ (someLate n (at xs)) 7 0)) (sym check-is ∙ e) .1 in
-      go (someLate n (at xs)) (first-none (cellRefusal n g) (pickℕ (someLate n (at xs)) 7 0) rest .1)
+    pub rest-none : someLate n (at xs) ≡ false → restRefusal n g xs ≡ 0
+    unfolding restRefusal
+    rest-none l = first-next (cellRefusal n g) (pickℕ (someLate n (at xs)) 7 0) e ∙ ap (λ (x : Bool). pickℕ x 7 0) l
+
+  rest-on-time : restRefusal n g xs ≡ 0 → someLate n (at xs) ≡ false
+  unfolding restRefusal
+  rest-on-time e = go (someLate n (at xs)) (first-none (cellRefusal n g) (pickℕ (someLate n (at xs)) 7 0) e .1)
     where
       go : (x : Bool) → pickℕ x 7 0 ≡ 0 → x ≡ false
       go true z = absurd (omega arith)
       go false z = refl
+
+-- ---- all of them
+
+module _ (n : ℕ) (g : List ℕ) (xs : List ℤ) where
+  -- what the lengths refuse comes before the rest
+  pub check-length : (k : ℕ) → lengthRefusal n g (length xs) ≡ k → 0 < k → checkRefusal n g xs ≡ k
+  unfolding checkRefusal
+  check-length k e h = first-here (lengthRefusal n g (length xs)) (restRefusal n g xs) (omega arith) ∙ e
+
+  pub check-rest : lengthRefusal n g (length xs) ≡ 0 → checkRefusal n g xs ≡ restRefusal n g xs
+  unfolding checkRefusal
+  check-rest e = first-next (lengthRefusal n g (length xs)) (restRefusal n g xs) e
+
+  -- none: the lengths are right, and no start is late
+  pub check-lengths : checkRefusal n g xs ≡ 0 → Lengths n g (length xs)
+  unfolding checkRefusal
+  check-lengths e = lengths n g (length xs) (first-none (lengthRefusal n g (length xs)) (restRefusal n g xs) e .0)
+
+  pub check-on-time : checkRefusal n g xs ≡ 0 → someLate n (at xs) ≡ false
+  unfolding checkRefusal
+  check-on-time e = rest-on-time n g xs (first-none (lengthRefusal n g (length xs)) (restRefusal n g xs) e .1)
 
   -- any two answers that the statement allows are equal
   pub check-unique : (a b : CheckAnswer) → CheckSays n g xs a → CheckSays n g xs b → a ≡ b

@@ -35,7 +35,7 @@ module _ (t : ℕ → Bool) where
   unfolding count
   count-none = refl
 
-  pub count-more : (k : ℕ) → count (k + 1) t ≡ digit (t k) + count k t
+  count-more : (k : ℕ) → count (k + 1) t ≡ digit (t k) + count k t
   unfolding count
   count-more k = rw add-one
 

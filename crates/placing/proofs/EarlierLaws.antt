@@ -25,6 +25,7 @@ abbrev pub endOf : ℕ → Event → ℤ
 endOf zero X = X .start
 endOf (suc e) X = X .end
 
+-- the number of the start (0) or end
 abbrev pick : ℕ → ℕ → ℕ → ℕ
 pick zero a b = a
 pick (suc e) a b = b

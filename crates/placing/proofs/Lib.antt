@@ -6,4 +6,4 @@ pub mod SettleLaws
 pub mod CheckLaws
 mod StepLaws
 mod EntryLaws
-mod SignedLaws
+pub mod SignedLaws

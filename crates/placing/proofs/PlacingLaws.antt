@@ -28,7 +28,7 @@ pub record Gives (n : ℕ) (v : ℕ → ℤ) (P : ℕ → Event) : Type 0 where
 pub gives-list : (n : ℕ) (xs : List ℤ) (P : ℕ → Event) → Places n xs P → Gives n (at xs) P
 gives-list n xs P w = record { starts = w .starts; ends = w .ends }
 
-pub list-gives : (n : ℕ) (xs : List ℤ) (P : ℕ → Event) → Gives n (at xs) P → Places n xs P
+list-gives : (n : ℕ) (xs : List ℤ) (P : ℕ → Event) → Gives n (at xs) P → Places n xs P
 list-gives n xs P w = record { starts = w .starts; ends = w .ends }
 
 -- ---- the event with two given ends; any event where the start is not before the end
@@ -63,15 +63,15 @@ relationAt-lt v i j = relBy-lt ltZ (v (2 * i)) (v (2 * i + 1)) (v (2 * j)) (v (2
 
 module _ (n : ℕ) (v : ℕ → ℤ) where
   -- the relation found is the one that holds
-  pub relationAt-is : (P : ℕ → Event) → Gives n v P → (i j : ℕ) → i < n → j < n → relationAt v i j ≡ relOf (P i) (P j)
+  relationAt-is : (P : ℕ → Event) → Gives n v P → (i j : ℕ) → i < n → j < n → relationAt v i j ≡ relOf (P i) (P j)
   unfolding relOf
   relationAt-is P w i j hi hj = cc (w .starts i hi, w .ends i hi, w .starts j hj, w .ends j hj)
 
   -- no start is late: a placing
-  pub placing-from : ℕ → Event
+  placing-from : ℕ → Event
   placing-from i = eventOf (v (2 * i)) (v (2 * i + 1))
 
-  pub gives-from : someLate n v ≡ false → Gives n v placing-from
+  gives-from : someLate n v ≡ false → Gives n v placing-from
   unfolding placing-from
   gives-from e = record {
     starts = λ i h. event-start (v (2 * i)) (v (2 * i + 1)) (on-time i h);
@@ -92,7 +92,7 @@ module _ (n : ℕ) (v : ℕ → ℤ) where
 
 module _ (n : ℕ) (g : List ℕ) (v : ℕ → ℤ) (P : ℕ → Event) (w : Gives n v P) where
   -- no cell is missed: the placing meets every cell
-  pub meets-all : someMissed n g v ≡ false → Meets n g P
+  meets-all : someMissed n g v ≡ false → Meets n g P
   meets-all e =
       record {
         each = λ i j hi hj. (
@@ -148,11 +148,11 @@ module _ (n : ℕ) (v w : ℕ → ℤ) (alike : Alike n v w) where
         alike (2 * j + 1) (2 * i + 1) d b,
       )
 
-  pub missed-alike : (g h : List ℕ) → ((i j : ℕ) → i < n → j < n → cell n g i j ≡ cell n h i j) → someMissed n g v ≡ someMissed n h w
-  missed-alike g h e =
-      some-same n (rowMissed n g v) (rowMissed n h w)
-      (λ i hi. some-same n (missed n g v i) (missed n h w i)
-      (λ j hj. ap₂ (λ (r a : ℕ). not (member r a)) (relationAt-alike i j hi hj) (e i j hi hj)))
+  pub missed-alike : (g : List ℕ) → someMissed n g v ≡ someMissed n g w
+  missed-alike g =
+      some-same n (rowMissed n g v) (rowMissed n g w)
+      (λ i hi. some-same n (missed n g v i) (missed n g w i)
+      (λ j hj. ap (λ (r : ℕ). not (member r (cell n g i j))) (relationAt-alike i j hi hj)))
 
 -- ---- of a list
 

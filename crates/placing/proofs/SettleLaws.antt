@@ -19,12 +19,11 @@ use Rattle.relation.proofs.Tested.{T-of, of-T, and-left, and-right}
 use Rattle.relation.proofs.Rank.{Weak}
 use Rattle.relation.proofs.Order.{whole}
 use Rattle.relation.proofs.SetLaws.{member-mark}
-use Rattle.grid.specs.Cells.{cell}
 use Rattle.placing.specs.Placing.{Meets, at, MeetsAt, NoGaps, Scenario}
 use Rattle.placing.specs.Checking.{someLate}
-use Rattle.placing.specs.Settling.{earlier, before, count, endsBefore, valuesBelow, endNumber, gaplessEnd, listOf, placingOf, someMissed, settles, Settled}
+use Rattle.placing.specs.Settling.{earlier, before, count, endsBefore, endNumber, gaplessEnd, listOf, placingOf, someMissed, settles, Settled}
 use Rattle.placing.proofs.CountLaws.{count-same, count-keeps}
-use Rattle.placing.proofs.GaplessLaws.{values-keep, values-onto, values-same, gapless-only}
+use Rattle.placing.proofs.GaplessLaws.{values-keep, values-onto, gapless-only}
 use Rattle.placing.proofs.EarlierLaws.{endOf, earlier-is, mark-cut}
 use Rattle.placing.proofs.PlacingLaws.{Gives, gives-list, Alike, alike-equal, late-alike, missed-alike, never-late, never-missed, list-meets}
 
@@ -47,7 +46,7 @@ is-listOf k f xs l e =
     ext-getD (pos 0) xs (listOf k f) (l ∙ sym (listOf-length k f))
     (λ p h. let m : p < k = omega (arith, l) in e p m ∙ sym (listOf-at k f p m))
 
-pub placing-length : (n : ℕ) (g : List ℕ) → length (placingOf n g) ≡ 2 * n
+placing-length : (n : ℕ) (g : List ℕ) → length (placingOf n g) ≡ 2 * n
 unfolding placingOf
 placing-length n g = listOf-length (2 * n) (gaplessEnd n g)
 
@@ -109,7 +108,7 @@ module _ (n : ℕ) (g : List ℕ) where
       let b = settles-both e in
       list-meets n g (placingOf n g)
       (sym (late-alike n (gaplessEnd n g) (at (placingOf n g)) alike-list) ∙ b .0)
-      (sym (missed-alike n (gaplessEnd n g) (at (placingOf n g)) alike-list g g (λ i j hi hj. refl)) ∙ b .1)
+      (sym (missed-alike n (gaplessEnd n g) (at (placingOf n g)) alike-list g) ∙ b .1)
 
 -- ---- the ends of a placing
 
@@ -181,12 +180,12 @@ module _ (n : ℕ) (g : List ℕ) (S : Scenario n g) (P : ℕ → Event) (M : Me
       ∙ sym (count-keeps ends-lt ends-weak (2 * n) p q hp hq)
 
   -- and the grid is settled
-  pub placed-settles : settles n g ≡ true
+  placed-settles : settles n g ≡ true
   unfolding settles
   placed-settles =
       ap₂ (λ (x y : Bool). not x && not y)
       (late-alike n (gaplessEnd n g) (endAt P) number-alike ∙ never-late n (endAt P) P (gives-ends n P))
-      (missed-alike n (gaplessEnd n g) (endAt P) number-alike g g (λ i j hi hj. refl)
+      (missed-alike n (gaplessEnd n g) (endAt P) number-alike g
       ∙ never-missed n g (endAt P) P (gives-ends n P) M)
 
 -- a scenario that is not settled has no placing
@@ -242,34 +241,3 @@ pub gapless-is : (n : ℕ) (g : List ℕ) → Scenario n g → (xs : List ℤ) �
 gapless-is n g S xs l G M =
     gapless-unique n g S xs (placingOf n g) l (placing-length n g) G (placing-gapless n g) M
     (settled-meets n g (placed-settles n g S (M .placing) (M .meets)))
-
--- ---- only the first n * n cells count
-
-module _ (n : ℕ) (g h : List ℕ) (same : (i j : ℕ) → i < n → j < n → cell n g i j ≡ cell n h i j) where
-  before-same : (p q : ℕ) → p < 2 * n → q < 2 * n → before n g p q ≡ before n h p q
-  unfolding before
-  before-same p q hp hq =
-      ap (λ (a : ℕ). not (eqb (bitAnd a (earlier (p % 2) (q % 2))) 0)) (same (p / 2) (q / 2) (omega arith) (omega arith))
-
-  endsBefore-same : (p : ℕ) → p < 2 * n → endsBefore n g p ≡ endsBefore n h p
-  unfolding endsBefore
-  endsBefore-same p l = count-same (2 * n) (λ q. before n g q p) (λ q. before n h q p) (λ q k. before-same q p k l)
-
-  number-same : (p : ℕ) → p < 2 * n → endNumber n g p ≡ endNumber n h p
-  unfolding endNumber
-  number-same p l =
-      ap (λ (v : ℕ). valuesBelow (endsBefore n g) (2 * n) v) (endsBefore-same p l)
-      ∙ values-same (2 * n) (endsBefore n g) (endsBefore n h) endsBefore-same (endsBefore n h p)
-
-  pub placing-same : placingOf n g ≡ placingOf n h
-  unfolding placingOf
-  placing-same =
-      is-listOf (2 * n) (gaplessEnd n h) (placingOf n g) (placing-length n g)
-      (λ p l. placing-at n g p l ∙ ap pos (number-same p l))
-
-  pub settles-same : settles n g ≡ settles n h
-  unfolding settles
-  settles-same =
-      let alike = alike-equal n (gaplessEnd n g) (gaplessEnd n h) (λ p l. ap pos (number-same p l)) in
-      ap₂ (λ (x y : Bool). not x && not y) (late-alike n (gaplessEnd n g) (gaplessEnd n h) alike)
-      (missed-alike n (gaplessEnd n g) (gaplessEnd n h) alike g h same)

@@ -26,10 +26,13 @@ late v i = not (ltZ (v (2 * i)) (v (2 * i + 1)))
 abbrev pub someLate : ℕ → (ℕ → ℤ) → Bool
 someLate n v = some n (late v)
 
+-- of a grid and a placing of the right lengths: 3, 4, 5, then 7; 0 is none
+unfoldable pub restRefusal : ℕ → List ℕ → List ℤ → ℕ
+restRefusal n g xs = firstOf (cellRefusal n g) (pickℕ (someLate n (at xs)) 7 0)
+
 -- 1, 2, 6, then 3, 4, 5, then 7, each looked for over everything before the next; 0 is none
 unfoldable pub checkRefusal : ℕ → List ℕ → List ℤ → ℕ
-unfolding lengthRefusal
-checkRefusal n g xs = firstOf (lengthRefusal n g (length xs)) (firstOf (cellRefusal n g) (pickℕ (someLate n (at xs)) 7 0))
+checkRefusal n g xs = firstOf (lengthRefusal n g (length xs)) (restRefusal n g xs)
 
 -- a refusal exactly in its case; yes exactly if the placing meets every cell
 abbrev pub CheckSays : ℕ → List ℕ → List ℤ → CheckAnswer → Type 0

@@ -34,7 +34,7 @@ pub record NoGaps (xs : List ℤ) : Type 0 where
   pub counts : (p : ℕ) → p < length xs → (k : ℕ) × (at xs p ≡ pos k)
   pub down : (p k : ℕ) → p < length xs → pos k ≤ℤ at xs p → (q : ℕ) × (q < length xs) × (at xs q ≡ pos k)
 
--- one relation for each pair
+-- one relation for each pair: the laws of settling speak of it, and no statement cites it
 pub record Scenario (n : ℕ) (g : List ℕ) : Type 0 where
   pub single : (i j : ℕ) → i < n → j < n → (r : ℕ) × (r < 13) × (cell n g i j ≡ 2 ^ r)
   pub diagonal : (i : ℕ) → i < n → cell n g i i ≡ 4096

@@ -1,6 +1,6 @@
 -- How the placing without gaps of a scenario is worked out and checked: what the rule of the search cites. proofs/SettleLaws.antt shows what it means. Assumes nothing.
 use mathlib.Core.Path.{_≡_}
-use mathlib.Core.Bool.{Bool, true, false, not, _&&_}
+use mathlib.Core.Bool.{Bool, cond, not, _&&_}
 use mathlib.Core.List.{List, [], _∷_}
 use Prim.Native.Nat.{ℕ, zero, suc, _+_, _*_, _/_, _%_}
 use lib.Bits.{bitAnd}
@@ -77,11 +77,7 @@ someMissed n g v = some n (rowMissed n g v)
 unfoldable pub settles : ℕ → List ℕ → Bool
 settles n g = not (someLate n (gaplessEnd n g)) && not (someMissed n g (gaplessEnd n g))
 
-abbrev pub pickRoom : Bool → List ℤ → List ℤ → List ℤ
-pickRoom true a b = a
-pickRoom false a b = b
-
 -- the answer, and the room afterwards: the placing, or as found
 pub record Settled (n : ℕ) (g : List ℕ) (room after : List ℤ) (r : Bool) : Type 0 where
   pub answer : r ≡ settles n g
-  pub room-after : after ≡ pickRoom (settles n g) (placingOf n g) room
+  pub room-after : after ≡ cond (settles n g) (placingOf n g) room

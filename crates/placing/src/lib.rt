@@ -3,13 +3,12 @@ ghost use mathlib.Core.Path.{_≡_};
 ghost use Prim.Native.Nat.{_+_, _*_, _≤_, _<_};
 ghost use lib.ListN.{length, getD};
 ghost use lib.Signed.{ltZ};
-ghost use Rattle.relation.specs.Meaning.{pickℕ};
 ghost use Rattle.relation.specs.Sets.{member};
 ghost use Rattle.relation.specs.Comparing.{more, relBy, relFrom};
 ghost use Rattle.relation.proofs.Order.{cmp};
-ghost use Rattle.grid.specs.Accepted.{judgedNumber, cellRefusal, firstOf};
+ghost use Rattle.grid.specs.Accepted.{judgedNumber};
 ghost use Rattle.placing.specs.Placing.{at, naturalOf};
-ghost use Rattle.placing.specs.Checking.{lengthRefusal, someLate, checkRefusal, CheckSays};
+ghost use Rattle.placing.specs.Checking.{lengthRefusal, someLate, restRefusal, checkRefusal, CheckSays};
 ghost use Rattle.placing.specs.Settling.{earlier, before, endsBefore, isValue, relationAt, rowMissed, someMissed, Settled};
 ghost use Rattle.placing.specs.Steps.{orderOf, Counts, Belows, Numbers, Copied};
 use grid::EVENTS;
@@ -84,7 +83,7 @@ fn judge_check(g: &[u16], n: usize, placing: &[i32]) -> Judged
 // Refusals 3, 4, 5 and 7 of a grid and a placing of the right lengths.
 fn judge_sized(g: &[u16], n: usize, placing: &[i32]) -> Judged
     requires { ⌜ (n ≤ 32) × (length (now g) ≡ n * n) × (2 * n ≤ length (now placing)) ⌝ }
-    ensures { λ r. ⌜ judgedNumber r ≡ firstOf (cellRefusal n (now (g .entry))) (pickℕ (someLate n (at (now (placing .entry)))) 7 0) ⌝ }
+    ensures { λ r. ⌜ judgedNumber r ≡ restRefusal n (now (g .entry)) (now (placing .entry)) ⌝ }
 {
     let cells = grid::judge_cells(g, n);
     match cells {
@@ -223,6 +222,7 @@ fn some_missed(g: &[u16], n: usize, placing: &[i32]) -> bool
     false
 }
 
+// One of the four sets, by start (0) or end (1) of X and of Y.
 fn earlier(e: usize, f: usize) -> u16
     requires { ⌜ (e < 2) × (f < 2) ⌝ }
     ensures { λ a. ⌜ a ≡ earlier e f ⌝ }

@@ -48,18 +48,9 @@ fn write_answer(out: &mut [u8], answer: CheckAnswer)
     requires { ⌜ 5 ≤ length (now out) ⌝ }
 {
     match answer {
-        CheckAnswer::Meets => {
-            cases::write8(out, 0, 0);
-            cases::write32(out, 1, 0);
-        }
-        CheckAnswer::Misses => {
-            cases::write8(out, 0, 1);
-            cases::write32(out, 1, 0);
-        }
-        CheckAnswer::Refused(r) => {
-            cases::write8(out, 0, 3);
-            cases::write32(out, 1, refusal::number_of(r) as u32);
-        }
+        CheckAnswer::Meets => cases::write_kind(out, 0, 0),
+        CheckAnswer::Misses => cases::write_kind(out, 1, 0),
+        CheckAnswer::Refused(r) => cases::write_kind(out, 3, refusal::number_of(r) as u32),
     }
 }
 

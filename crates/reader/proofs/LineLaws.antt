@@ -9,8 +9,8 @@ use lib.Dec.{leb}
 use lib.ListN.{length, take, drop}
 use borrow.Author.Tests.{lt-leb, leb-false}
 use Rattle.text.specs.Text.{split}
-use Rattle.text.specs.Steps.{until, PartEnd}
-use Rattle.text.proofs.PartLaws.{part-end, after-next, after-last, part-length, split-some}
+use Rattle.text.specs.Steps.{PartEnd}
+use Rattle.text.proofs.PartLaws.{until, part-end, after-next, after-last, part-length, split-some}
 use Rattle.sheet.specs.Sheet.{lf}
 use Rattle.sheet.specs.Steps.{partsFrom, Ends as Next}
 use Rattle.sheet.proofs.LineLaws.{line-ends as sheet-line-ends}

@@ -1,15 +1,12 @@
 -- The lines of the events, put in one after the other. Assumes nothing.
 use mathlib.Core.Path.{_≡_, _∙_, ap}
 use mathlib.Core.List.{List, []}
-use Prim.Native.Nat.{ℕ, _+_, _*_, _^_, _≤_, _<_}
+use Prim.Native.Nat.{ℕ, _+_, _*_, _≤_}
 use native.Mathlib.Numerals.{add-one}
 use lib.IntN.{ℤ}
-use lib.Signed.{mag}
 use lib.ListN.{length, getD}
-use mir.Syntax.{w32}
-use mir.Val.{toZ, ofZ, hbits}
-use mir.Facts.{toZ-ofZ}
 use Rattle.placing.specs.Placing.{at, naturalOf}
+use Rattle.placing.proofs.SignedLaws.{back, Small, back-is}
 use Rattle.report.specs.Report.{eventLine, eventLines}
 use Rattle.report.specs.Steps.{Adds}
 use Rattle.report.proofs.AddsLaws.{adds-none, adds-then}
@@ -25,5 +22,5 @@ unfolding eventLines
 adds-line names xs k name start end p q r u v = rw (add-one k, ← p, ← q, ← r) (adds-then u v)
 
 -- a number of the placing, as it is handed to a call
-pub natural-is : (x : ℤ) → mag x < 2 ^ hbits w32 → (k : ℕ) → k ≡ naturalOf (toZ w32 (ofZ w32 x)) → k ≡ naturalOf x
-natural-is x h k e = let back : toZ w32 (ofZ w32 x) ≡ x = toZ-ofZ (record { sfits = h }) in e ∙ ap naturalOf back
+pub natural-is : (x : ℤ) → Small x → (k : ℕ) → k ≡ naturalOf (back x) → k ≡ naturalOf x
+natural-is x h k e = e ∙ ap naturalOf (back-is x h)

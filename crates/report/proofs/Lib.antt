@@ -1,7 +1,6 @@
 pub mod AddsLaws
 pub mod DecimalLaws
 pub mod EventLaws
-pub mod NameLaws
 pub mod FoundLaws
 pub mod ReportRight
 pub mod Examples

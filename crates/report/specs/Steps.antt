@@ -2,11 +2,11 @@
 use mathlib.Core.Path.{_≡_}
 use mathlib.Core.Bool.{Bool, true, false}
 use mathlib.Core.List.{List, [], _∷_, _++_}
-use Prim.Native.Nat.{ℕ, _+_, _*_, _≤_, _<_}
-use lib.ListN.{length, take, drop, getD}
+use Prim.Native.Nat.{ℕ, _+_, _*_, _≤_}
+use lib.ListN.{length, take, drop}
 use Rattle.text.specs.Names.{longestName}
 use Rattle.sheet.specs.Sheet.{Outcome, mostEvents}
-use Rattle.sheet.specs.Steps.{Keeps, namesAt}
+use Rattle.sheet.specs.Steps.{Keeps, Short, namesAt}
 use Rattle.theory.specs.Search.{Found}
 use Rattle.report.specs.Text.{decimal, line}
 use Rattle.report.specs.Report.{firstLine, allLines, placeOf, triageOf}
@@ -44,10 +44,6 @@ mostFirst = longestWord + mostAfter
 -- a word and its tries
 abbrev pub saidLine : List ℕ → ℕ → List ℕ
 saidLine word tries = line (word ∷ decimal tries ∷ [])
-
--- names of at most 16 bytes
-abbrev pub Short : List (List ℕ) → Type 0
-Short names = (i : ℕ) → i < length names → length (getD names i []) ≤ longestName
 
 -- n events, whose names the table keeps
 pub record Named (s at len : List ℕ) (n : ℕ) : Type 0 where

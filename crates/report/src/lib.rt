@@ -33,6 +33,7 @@ pub struct Printed {
     pub len: usize,
 }
 
+// This and those below put a text into the room from a place on, and hand back where it ends.
 fn put_byte(out: &mut [u8], at: usize, b: u8) -> usize
     requires { ⌜ at < length (now out) ⌝ }
     ensures { λ r. ⌜ Adds (now (out .entry)) (now (out .exit)) at r (b ∷ []) ⌝ }
@@ -67,6 +68,7 @@ fn put_digits(out: &mut [u8], at: usize, k: u64) -> usize
     put_byte(out, end, b'0' + (k % 10) as u8)
 }
 
+// A number of 64 bits, which needs room for 20 digits at most.
 fn put_number(out: &mut [u8], at: usize, k: u64) -> usize
     requires { ⌜ at + mostDigits ≤ length (now out) ⌝ }
     ensures { λ r. ⌜ AddsUpTo mostDigits (now (out .entry)) (now (out .exit)) at r (decimal k) ⌝ }
@@ -99,6 +101,7 @@ fn put_refusal(out: &mut [u8], why: Refusal, line: usize) -> usize
     put_byte(out, e, b'\n')
 }
 
+// The line of an event: name, start, end.
 fn put_event(out: &mut [u8], at: usize, name: &[u8], start: u32, end: u32) -> usize
     requires { ⌜ (length (now name) ≤ longestName) × (at + mostEvent ≤ length (now out)) ⌝ }
     ensures { λ r. ⌜ AddsUpTo mostEvent (now (out .entry)) (now (out .exit)) at r (eventLine (now (name .entry)) start end) ⌝ }

@@ -23,6 +23,7 @@ fn bits_of(x: i32) -> u32 {
     }
 }
 
+// The numbers come after the kind and its number.
 fn write_numbers(out: &mut [u8], xs: &[i32])
     requires { ⌜ 5 + 4 * length (now xs) ≤ length (now out) ⌝ }
 {
@@ -33,21 +34,14 @@ fn write_numbers(out: &mut [u8], xs: &[i32])
     }
 }
 
-fn write_kind(out: &mut [u8], kind: u8, value: u32)
-    requires { ⌜ 5 ≤ length (now out) ⌝ }
-{
-    cases::write8(out, 0, kind);
-    cases::write32(out, 1, value);
-}
-
 fn write_answer(out: &mut [u8], answer: PlaceAnswer)
     requires { ⌜ 5 ≤ length (now out) ⌝ }
 {
     match answer {
-        PlaceAnswer::Placed(t) => write_kind(out, 0, t),
-        PlaceAnswer::None(t) => write_kind(out, 1, t),
-        PlaceAnswer::GaveUp(t) => write_kind(out, 2, t),
-        PlaceAnswer::Refused(r) => write_kind(out, 3, refusal::number_of(r) as u32),
+        PlaceAnswer::Placed(t) => cases::write_kind(out, 0, t),
+        PlaceAnswer::None(t) => cases::write_kind(out, 1, t),
+        PlaceAnswer::GaveUp(t) => cases::write_kind(out, 2, t),
+        PlaceAnswer::Refused(r) => cases::write_kind(out, 3, refusal::number_of(r) as u32),
     }
 }
 
@@ -57,12 +51,13 @@ fn search_case(g: &[u16], n: usize, allowance: u32, room: &mut [i32]) {
         return;
     }
     let answer = search::find_placing(g, n, allowance, room);
-    let mut out = [0u8; 325];
+    let mut out = [0u8; 5 + 4 * NUMBERS];
     write_answer(&mut out, answer);
     write_numbers(&mut out, room);
     cases::send(&out, 5 + 4 * room.len());
 }
 
+// The same, for the first cells and numbers of longer rooms.
 fn search_front(g: &[u16], cells: usize, n: usize, allowance: u32, room: &mut [i32], numbers: usize)
     requires { ⌜ (cells ≤ length (now g)) × (numbers ≤ length (now room)) ⌝ }
 {

@@ -133,10 +133,10 @@ some-not-ended x xs = by (eqb x lf) (split lf xs) (split-some lf xs)
     by true (p ∷ ps) h = rw (ne-eqb (suc (suc (length ps))) 1 (λ y. omega arith))
     by false (p ∷ ps) h = rw (ne-eqb (suc (length p)) 0 (λ y. omega arith)) (and-false (eqb (suc (length ps)) 1))
 
-pub ended-at : (s : List ℕ) (a : ℕ) → length s ≤ a → ended (partsFrom s a) ≡ true
+ended-at : (s : List ℕ) (a : ℕ) → length s ≤ a → ended (partsFrom s a) ≡ true
 ended-at s a h = rw drop-of-length-le
 
-pub not-ended-at : (s : List ℕ) (a : ℕ) → a < length s → ended (partsFrom s a) ≡ false
+not-ended-at : (s : List ℕ) (a : ℕ) → a < length s → ended (partsFrom s a) ≡ false
 not-ended-at s a h = rw (drop-cons s a 0) (some-not-ended (getD s a 0) (drop (suc a) s))
 
 module _ (ns : List (List ℕ)) (cs : List ℕ) (i : ℕ) (sts : List Statement) (s : List ℕ) (a line : ℕ) (e : length cs ≤ i) where

@@ -16,8 +16,9 @@ use Rattle.text.specs.Text.{isNumber, value}
 use Rattle.text.specs.Names.{isName, sameName}
 use Rattle.text.specs.Steps.{PartEnd}
 use Rattle.text.proofs.PartLaws.{part-length}
-use Rattle.sheet.specs.Sheet.{refused, mostStatements, lf, fields, nameIn, countIn, isEntry, find, listed, entryFault, owners, next, lineFault, bodies, contents}
-use Rattle.sheet.specs.Steps.{partsFrom, Begins, EntryIs, EntryRead, nameAt, namesAt, Within, Starts}
+use Rattle.sheet.specs.Sheet.{refused, mostEvents, mostStatements, lf, fields, nameIn, countIn, isEntry, find, listed, entryFault, owners, next, lineFault, bodies, contents}
+use Rattle.sheet.specs.Steps.{partsFrom, Begins, EntryIs, EntryRead, nameAt, namesAt, Within, Keeps, Starts, TableOf}
+use Rattle.sheet.specs.declared.Table.{Table}
 use Rattle.sheet.proofs.LineLaws.{line-is, line-there, line-ends, or-refused}
 
 -- ---- a line by itself
@@ -155,6 +156,11 @@ module _ (s at len : List ℕ) (i a k : ℕ) (p : i < length at) (q : i < length
     | yes b ↦ rw (getD-set-other at i j a 0 (λ e. omega arith)) (w j b)
     | no b ↦ let e : j ≡ i = omega arith in rw (e, getD-set-same at i a 0 p) (sym (h .bytes))
   ]
+
+-- the table of n events is one of n places and lengths
+pub table-keeps : (s : List ℕ) (n : ℕ) (t : Table) → n ≤ mostEvents → TableOf s n t → Keeps s (t .at) (t .len) n
+table-keeps s n t few w =
+    record { places = omega (arith, w .at-long); lengths = omega (arith, w .len-long); within = w .within }
 
 -- ---- looking a name up
 

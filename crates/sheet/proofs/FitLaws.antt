@@ -45,7 +45,7 @@ owners-below n i (c ∷ cs) h =
 
 -- ---- a line without a fault
 
-no-fault : (f : List ℕ → ℕ) (ps : List (List ℕ)) → lineFault f ps ≡ 0 → f (next ps) ≡ 0
+pub no-fault : (f : List ℕ → ℕ) (ps : List (List ℕ)) → lineFault f ps ≡ 0 → f (next ps) ≡ 0
 no-fault f [] e = absurd (omega arith)
 no-fault f (p ∷ []) e = absurd (omega arith)
 no-fault f (p ∷ q ∷ ps) e = e
@@ -71,6 +71,17 @@ statement-fits ns i l h e = by (isStatement l) (listed ns (otherIn l)) (eqb (fin
         record { one-in = h; two-in = ltb-true (find ns (otherIn l)) (length ns) p; apart = λ y. eqb-false (find ns (otherIn l)) i q (sym y) }
 
 -- ---- the whole sheet
+
+-- an accepted sheet has no fault on its first line, and its contents are accepted
+pub sheet-opened : (s : List ℕ) (ns : List (List ℕ)) (cs : List ℕ) (sts : List Statement) → sheet s ≡ accepted ns cs sts
+    → (lineFault firstFault (parts s) ≡ 0) × (contents (value (next (parts s))) [] [] (drop 1 (parts s)) 2 ≡ accepted ns cs sts)
+unfolding sheet
+sheet-opened s ns cs sts e = by (ltb mostBytes (length s)) e
+  where
+    by : (t : Bool) → cond t (refused 8 0) (first (parts s)) ≡ accepted ns cs sts
+        → (lineFault firstFault (parts s) ≡ 0) × (contents (value (next (parts s))) [] [] (drop 1 (parts s)) 2 ≡ accepted ns cs sts)
+    by true e = let z : _≡_ {A = ℕ} 0 1 = cc in absurd (omega arith)
+    by false e = went-on (lineFault firstFault (parts s)) 1 (contents (value (next (parts s))) [] [] (drop 1 (parts s)) 2) ns cs sts e
 
 module _ (ns′ : List (List ℕ)) (cs′ : List ℕ) (sts′ : List Statement) where
   pub bodies-fit : (ns : List (List ℕ)) (cs os : List ℕ) (sts : List Statement) (ps : List (List ℕ)) (line : ℕ)
@@ -105,8 +116,11 @@ module _ (ns′ : List (List ℕ)) (cs′ : List ℕ) (sts′ : List Statement) 
       (omega (arith, r .0), r .1)
 
   pub sheet-fits : (s : List ℕ) → sheet s ≡ accepted ns′ cs′ sts′ → (length ns′ ≤ mostEvents) × AllFit (length ns′) sts′
-  unfolding sheet
-  sheet-fits s e = by (ltb mostBytes (length s)) e
+  sheet-fits s e =
+      let ps = parts s in
+      let w = sheet-opened s ns′ cs′ sts′ e in
+      let r = contents-fit (value (next ps)) [] [] (drop 1 ps) 2 refl (w .1) in
+      (omega (arith, r .0, few (next ps) (no-fault firstFault ps (w .0))), r .1)
     where
       few : (l : List ℕ) → firstFault l ≡ 0 → value l ≤ mostEvents
       few l e = go (isNumber l) (ltb mostEvents (value l)) refl e
@@ -115,14 +129,6 @@ module _ (ns′ : List (List ℕ)) (cs′ : List ℕ) (sts′ : List Statement) 
           go false u p e = absurd (omega arith)
           go true true p e = absurd (omega arith)
           go true false p e = ltb-false mostEvents (value l) p
-
-      by : (t : Bool) → cond t (refused 8 0) (first (parts s)) ≡ accepted ns′ cs′ sts′ → (length ns′ ≤ mostEvents) × AllFit (length ns′) sts′
-      by true e = let z : _≡_ {A = ℕ} 0 1 = cc in absurd (omega arith)
-      by false e =
-          let ps = parts s in
-          let w = went-on (lineFault firstFault ps) 1 (contents (value (next ps)) [] [] (drop 1 ps) 2) ns′ cs′ sts′ e in
-          let r = contents-fit (value (next ps)) [] [] (drop 1 ps) 2 refl (w .1) in
-          (omega (arith, r .0, few (next ps) (no-fault firstFault ps (w .0))), r .1)
 
 -- of the bodies alone, as the reader reads them
 pub bodies-fits : (ns : List (List ℕ)) (cs : List ℕ) (ps : List (List ℕ)) (line : ℕ) (sts : List Statement) → length cs ≤ length ns

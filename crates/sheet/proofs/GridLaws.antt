@@ -49,10 +49,10 @@ module _ (n i j : ℕ) (hi : i < n) (hj : j < n) where
   unfolding startGrid cell
   start-at = upTo-at (n * n) (startCell n) (i * n + j) (digits-lt hi hj) ∙ rw (digits-div i hj, digits-mod i hj)
 
-  pub start-same : i ≡ j → cell n (startGrid n) i j ≡ 4096
+  start-same : i ≡ j → cell n (startGrid n) i j ≡ 4096
   start-same e = start-at ∙ rw (eq-eqb i j e)
 
-  pub start-other : (i ≡ j → ⊥) → cell n (startGrid n) i j ≡ 8191
+  start-other : (i ≡ j → ⊥) → cell n (startGrid n) i j ≡ 8191
   start-other e = start-at ∙ rw (ne-eqb i j e)
 
 converse-eq : converse 4096 ≡ 4096
@@ -186,6 +186,3 @@ pub grid-front : (n : ℕ) (g g′ : List ℕ) (sts : List Statement) → AllFit
     → take (n * n) g′ ≡ gridOf n sts
 unfolding gridOf
 grid-front n g g′ sts f p q = ap (take (n * n)) q ∙ take-cuts n g sts f ∙ ap (λ (x : List ℕ). cutAll n x sts) p
-
-pub grid-length : (n : ℕ) (sts : List Statement) → n ≤ mostEvents → AllFit n sts → length (gridOf n sts) ≡ n * n
-grid-length n sts h f = grid-accepted n sts h f .long

@@ -4,5 +4,6 @@ pub mod BodyLaws
 pub mod FitLaws
 pub mod GridLaws
 pub mod SheetLaws
+pub mod NameLaws
 pub mod SheetRight
 pub mod Examples

@@ -84,5 +84,3 @@ sheet-says s g g′ n a t b few c f (Events m) y = subst (SheetRead (contents n 
               (rw many at (bodies-fits (tableNames s n t) (tableCounts n t) (partsFrom s b) (n + 2) (y .new) (omega (arith, many, length-take n (t .count))) (y .says)))
               f (y .grid);
         }
-
--- ---- the reader

@@ -135,8 +135,10 @@ contents (suc k) ns cs ps line =
     orRefused (lineFault (entryFault ns) ps) line
     (contents k (ns ++ nameIn (next ps) ∷ []) (cs ++ countIn (next ps) ∷ []) (drop 1 ps) (suc line))
 
+-- line 1, and the contents and bodies that it announces
 abbrev pub first : List (List ℕ) → Outcome
 first ps = orRefused (lineFault firstFault ps) 1 (contents (value (next ps)) [] [] (drop 1 ps) 2)
 
+-- 8 is looked for before all lines
 unfoldable pub sheet : List ℕ → Outcome
 sheet s = cond (ltb mostBytes (length s)) (refused 8 0) (first (parts s))

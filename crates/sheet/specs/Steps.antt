@@ -9,6 +9,7 @@ use lib.ListN.{length, take, drop, getD, replicate}
 use denote.Ref.{RefT}
 use Rattle.refusal.specs.Numbers.{numberOf}
 use Rattle.text.specs.Text.{split}
+use Rattle.text.specs.Names.{longestName}
 use Rattle.sheet.specs.Sheet.{Statement, Outcome, refused, accepted, mostEvents, lf, parts, nameIn, countIn, isEntry, entryFault, find, setIn, otherIn, isStatement, statementFault, owners, next, lineFault, bodies, contents}
 use Rattle.sheet.specs.Grid.{cutAll, gridOf}
 use Rattle.sheet.specs.Answers.{bytesIn, nameStart}
@@ -87,6 +88,10 @@ pub record Keeps (s at len : List ℕ) (n : ℕ) : Type 0 where
   pub places : n ≤ length at
   pub lengths : n ≤ length len
   pub within : Within s at len n
+
+-- names of at most 16 bytes
+abbrev pub Short : List (List ℕ) → Type 0
+Short ns = (i : ℕ) → i < length ns → length (getD ns i []) ≤ longestName
 
 -- each stands at the beginning of its line
 abbrev pub Starts : List ℕ → List ℕ → ℕ → Type 0

@@ -292,6 +292,7 @@ fn bodies_of(
     }
 }
 
+// What place p of the grid holds before any statement.
 fn start_cell(n: usize, p: usize) -> u16
     requires { ⌜ 0 < n ⌝ }
     ensures { λ r. ⌜ r ≡ startCell n p ⌝ }
@@ -342,6 +343,7 @@ fn lines_into(s: &[u8], n: usize, start: usize, g: &mut [u16]) -> Reading
     }
 }
 
+// A refusal, with a table that says nothing.
 fn refused(r: Refusal, line: usize) -> Reading
     ensures { λ x. ⌜ x .answer ≡ SheetAnswer.Refused r line ⌝ }
 {

@@ -90,6 +90,7 @@ struct Told {
     line: u32,
 }
 
+// The numbers written are far below 2 to the power 32; the remainder only shows that they fit.
 fn small(n: usize) -> u32 {
     (n % 4294967296) as u32
 }
@@ -126,8 +127,7 @@ fn name_start(bytes: &[u8], i: usize) -> usize {
 
 fn send_told(told: Told, sum: u32, start: usize, name: &[u8]) {
     let mut out = [0u8; 64];
-    cases::write8(&mut out, 0, told.kind);
-    cases::write32(&mut out, 1, told.value);
+    cases::write_kind(&mut out, told.kind, told.value);
     cases::write32(&mut out, 5, told.line);
     cases::write32(&mut out, 9, sum);
     cases::write32(&mut out, 13, small(start));
@@ -138,6 +138,7 @@ fn send_told(told: Told, sum: u32, start: usize, name: &[u8]) {
     }
 }
 
+// Reads the sheet into a room that was filled before, asks for the name, and writes what came.
 fn answer(bytes: &[u8], cells: &mut [u16], i: usize) {
     fill(cells);
     let read = told_of(sheet::read_sheet(bytes, cells));
@@ -149,6 +150,7 @@ fn answer(bytes: &[u8], cells: &mut [u16], i: usize) {
     );
 }
 
+// The same, for the first bytes and cells of longer rooms.
 fn answer_front(bytes: &[u8], count: usize, cells: &mut [u16], room: usize, i: usize) {
     if count <= bytes.len() {
         if room <= cells.len() {

@@ -10,7 +10,7 @@ use Rattle.text.specs.Text.{bytes}
 use Rattle.sheet.specs.Sheet.{Outcome, refused, accepted, sheet}
 use Rattle.sheet.specs.Grid.{gridOf}
 
--- what an example shows: a set; a cell of a closed grid and the takes; or a contradiction and its takes
+-- what an example shows: a set; a cell of a closed grid and the takes; a contradiction and its takes; or something else
 pub data Shown : Type 0 where
   set : ℕ → Shown
   closes : ℕ → ℕ → Shown

@@ -1,6 +1,6 @@
 -- Laws of the parts of a text. Assumes nothing.
 use Prim.Native.Nat.{ℕ, zero, suc, _+_, _-_, _≤_, _<_}
-use mathlib.Core.Path.{_≡_, refl, sym, _∙_, ap}
+use mathlib.Core.Path.{_≡_, refl, sym}
 use mathlib.Core.Bool.{Bool, true, false, cond}
 use mathlib.Core.List.{List, [], _∷_}
 use native.Mathlib.Omega.{arith}
@@ -12,9 +12,14 @@ use lib.ListN.{length, take, drop, getD, drop-of-length-le, length-drop}
 use lib.Seq.{drop-cons, drop-drop, drop-nil, take-all, take-nil, length-take-le}
 use borrow.Author.Tests.{lt-ltb, le-ltb, eq-eqb, ne-eqb}
 use Rattle.text.specs.Text.{split, onto}
-use Rattle.text.specs.Steps.{until, after, PartEnd}
+use Rattle.text.specs.Steps.{after, PartEnd}
 
 -- ---- counting up to the byte c
+
+-- how many bytes stand before the first c, or all of them
+abbrev pub until : ℕ → List ℕ → ℕ
+until c [] = zero
+until c (x ∷ xs) = cond (eqb x c) zero (suc (until c xs))
 
 module _ (c : ℕ) (s : List ℕ) (i : ℕ) where
   pub until-stop : i < length s → getD s i 0 ≡ c → until c (drop i s) ≡ 0
@@ -116,21 +121,3 @@ module _ (c : ℕ) (s : List ℕ) (k : ℕ) (p : PartEnd c s 0 k) where
   many-parts e h q g =
       rw (p .parts, after-next c s k h, q .parts, after-next c s e g)
       (ne-eqb (suc (suc (length (split c (drop (e + 1) s))))) 2 (λ y. omega (arith, split-some c (drop (e + 1) s))))
-
-single : (c : ℕ) (xs : List ℕ) → length (split c xs) ≡ 1 → split c xs ≡ xs ∷ []
-single c xs e = elim (decLt (until c xs) (length xs)) [
-  | yes h ↦ absurd (omega (arith, split-some c (drop (until c xs + 1) xs), sym (ap length (split-next c xs h)) ∙ e))
-  | no h ↦ let g : length xs ≤ until c xs = omega arith in split-last c xs g ∙ ap (λ (p : List ℕ). p ∷ []) (take-all (until c xs) xs g)
-]
-
--- the two parts of a text that has just two, of which the first has k bytes
-pub split-two : (c : ℕ) (l : List ℕ) (k : ℕ) → length (split c l) ≡ 2 → length (getD (split c l) 0 []) ≡ k
-    → (k < length l) × (split c l ≡ take k l ∷ drop (k + 1) l ∷ [])
-split-two c l k e q = elim (decLt (until c l) (length l)) [
-  | yes h ↦
-      let n : length (take (until c l) l) ≡ until c l = length-take-le (until c l) l (until-le c l) in
-      let j : until c l ≡ k = sym n ∙ (rw (split-next c l h) at q) in
-      let r = single c (drop (until c l + 1) l) (omega (arith, sym (ap length (split-next c l h)) ∙ e)) in
-      (omega arith, rw (sym j) (split-next c l h ∙ ap (λ (ps : List (List ℕ)). take (until c l) l ∷ ps) r))
-  | no h ↦ let g : length l ≤ until c l = omega arith in absurd (omega (arith, sym (ap length (split-last c l g)) ∙ e))
-]

@@ -1,4 +1,4 @@
--- Laws of tests over a text, and of decimal numbers. Assumes nothing.
+-- Laws of tests over a text, of decimal numbers, and of names. Assumes nothing.
 use Prim.Native.Nat.{ℕ, suc, _+_, _*_, _-_, _≤_, _<_, min}
 use mathlib.Core.Path.{_≡_, refl, ap}
 use mathlib.Core.Bool.{Bool, true, false, cond, not, _&&_}
@@ -10,6 +10,7 @@ use lib.ListN.{length, drop, getD, drop-of-length-le}
 use lib.Seq.{drop-cons}
 use borrow.Author.Tests.{eq-eqb, ne-eqb, leb-true, leb-false, le-leb, lt-leb}
 use Rattle.text.specs.Text.{bytes, all, same, digit, valueFrom, value, leadingZero, isNumber}
+use Rattle.text.specs.Names.{longestName, nameByte, isName}
 use Rattle.text.specs.Steps.{numberUpTo}
 use Rattle.text.specs.declared.Number.the-variants.{Is, Above, Not}
 
@@ -64,7 +65,7 @@ pub both : (t u : Bool) → (t && u) ≡ true → (t ≡ true) × (u ≡ true)
 both true u e = (refl, e)
 both false u e = let z : _≡_ {A = ℕ} 0 1 = cc in absurd (omega arith)
 
-pub digit-range : (x : ℕ) → digit x ≡ true → (48 ≤ x) × (x ≤ 57)
+digit-range : (x : ℕ) → digit x ≡ true → (48 ≤ x) × (x ≤ 57)
 digit-range x e = let p = both (leb 48 x) (leb x 57) e in (leb-true _ _ (p .0), leb-true _ _ (p .1))
 
 -- of digits, the next one and the rest
@@ -97,6 +98,17 @@ pub value-digit : (v : ℕ) (xs : List ℕ) (d : ℕ) → valueFrom v (xs ++ (48
 value-digit v [] d = omega arith
 value-digit v (x ∷ xs) d = value-digit (v * 10 + (x - 48)) xs d
 
+-- ---- names
+
+pub name-length : (xs : List ℕ) → isName xs ≡ true → length xs ≤ longestName
+unfolding isName
+name-length xs e =
+    let some = ltb 0 (length xs) in
+    let few = leb (length xs) longestName in
+    leb-true (length xs) longestName (both some few (both (some && few) (all nameByte xs) e .0) .1)
+
+-- ---- worked numbers
+
 number-1907 : (isNumber (bytes "1907") ≡ true) × (value (bytes "1907") ≡ 1907)
 unfolding isNumber
 number-1907 = (refl, refl)
@@ -105,7 +117,8 @@ no-number-01 : isNumber (bytes "01") ≡ false
 unfolding isNumber
 no-number-01 = refl
 
--- what an answer of number_up_to says
+-- ---- what an answer of number_up_to says
+
 module _ (most : ℕ) (s : List ℕ) where
   pub is-number : (v : ℕ) → numberUpTo most s ≡ Is v → (isNumber s ≡ true) × (value s ≤ most) × (value s ≡ v)
   is-number v e = by (isNumber s) (leb (value s) most) refl e

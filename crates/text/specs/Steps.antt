@@ -2,7 +2,7 @@
 use mathlib.Core.Path.{_≡_}
 use mathlib.Core.Bool.{false, cond}
 use mathlib.Core.List.{List, [], _∷_}
-use Prim.Native.Nat.{ℕ, zero, suc, _+_, _-_, _≤_, _<_}
+use Prim.Native.Nat.{ℕ, _+_, _-_, _≤_, _<_}
 use lib.Dec.{ltb, leb, eqb}
 use lib.ListN.{length, take, drop}
 use Rattle.text.specs.Text.{split, value, isNumber}
@@ -10,11 +10,6 @@ use Rattle.text.specs.declared.Two.{Two}
 use Rattle.text.specs.declared.Two.the-variants.{At, Not as Two·Not}
 use Rattle.text.specs.declared.Number.{Number}
 use Rattle.text.specs.declared.Number.the-variants.{Is, Above, Not}
-
--- how many bytes stand before the first c, or all of them
-abbrev pub until : ℕ → List ℕ → ℕ
-until c [] = zero
-until c (x ∷ xs) = cond (eqb x c) zero (suc (until c xs))
 
 -- the parts after a part that ends at e: none where e is the text's end
 unfoldable pub after : ℕ → List ℕ → ℕ → List (List ℕ)

@@ -1,4 +1,4 @@
--- Bytes as text: written letters, the parts between a byte, decimal numbers. Assumes nothing.
+-- Document 01, "Sheets": bytes as text, the parts between a byte, decimal numbers without leading zeros. Assumes nothing.
 use mathlib.Core.Bool.{Bool, true, false, cond, not, _&&_}
 use mathlib.Core.List.{List, [], _∷_}
 use Prim.Native.Nat.{ℕ, _+_, _*_, _-_}

@@ -98,7 +98,7 @@ fn is_number(s: &[u8]) -> bool
     all_digits(s)
 }
 
-// The value of digits, or the cap where it is larger.
+// The value of digits, or the cap where it is larger. The cap is so small that ten times as much and a digit fit.
 fn value_capped(s: &[u8], cap: usize) -> usize
     requires { ⌜ (all digit (now s) ≡ true) × (cap ≤ 65536) ⌝ }
     ensures { λ r. ⌜ r ≡ min cap (value (now (s .entry))) ⌝ }
@@ -122,7 +122,7 @@ pub enum Number {
     Not,
 }
 
-// Any number of digits is read.
+// The number that a text is. It may have any number of digits: past the most, its value is not worked out.
 pub fn number_up_to(s: &[u8], most: usize) -> Number
     requires { ⌜ most < 65536 ⌝ }
     ensures { λ r. ⌜ r ≡ numberUpTo most (now (s .entry)) ⌝ }
@@ -161,6 +161,7 @@ fn all_name_bytes(s: &[u8]) -> bool
     true
 }
 
+// A name, of 1 to 16 bytes.
 pub fn is_name(s: &[u8]) -> bool
     ensures { λ r. ⌜ r ≡ isName (now (s .entry)) ⌝ }
 {

@@ -10,11 +10,15 @@ use Rattle.theory.proofs.Lawful.{Lawful}
 abbrev pub Mirrored : Calculus → ℕ → Cells → Type 0
 Mirrored A n G = (i j : ℕ) → i < n → j < n → G j i ≡ A .conv (G i j)
 
--- G' is G with cell (i, k) cut to what (i, j) with (j, k) allows, and its mirror
-pub record IsCut (A : Calculus) (n : ℕ) (G G' : Cells) (i j k : ℕ) : Type 0 where
-  pub here : G' i k ≡ cutTo A G i j k
-  pub mirror : G' k i ≡ A .conv (cutTo A G i j k)
+-- G' is G with v put in cell (i, k) and, turned round, in its mirror
+pub record IsPut (A : Calculus) (n : ℕ) (G G' : Cells) (i k v : ℕ) : Type 0 where
+  pub here : G' i k ≡ v
+  pub mirror : G' k i ≡ A .conv v
   pub rest : (a b : ℕ) → a < n → b < n → ((a ≡ i) × (b ≡ k) → ⊥) → ((a ≡ k) × (b ≡ i) → ⊥) → G' a b ≡ G a b
+
+-- G' is G with cell (i, k) cut to what (i, j) with (j, k) allows, and its mirror
+abbrev pub IsCut : Calculus → ℕ → Cells → Cells → ℕ → ℕ → ℕ → Type 0
+IsCut A n G G' i j k = IsPut A n G G' i k (cutTo A G i j k)
 
 -- what any run of cuts keeps
 pub record Reached (A : Calculus) (n : ℕ) (G₀ G : Cells) : Type 0 where
@@ -29,16 +33,16 @@ module _ (A : Calculus) (L : Lawful A) where
   pub sub-trans : (a b c : ℕ) → Sub A a b → Sub A b c → Sub A a c
   sub-trans a b c p q = cc (L .meet-assoc a b c)
 
-  pub sub-antisym : (a b : ℕ) → Sub A a b → Sub A b a → a ≡ b
+  sub-antisym : (a b : ℕ) → Sub A a b → Sub A b a → a ≡ b
   sub-antisym a b p q = cc (L .meet-comm a b)
 
-  pub sub-meet-l : (a b : ℕ) → Sub A (A .meet a b) a
+  sub-meet-l : (a b : ℕ) → Sub A (A .meet a b) a
   sub-meet-l a b = cc (L .meet-comm (A .meet a b) a, L .meet-assoc a a b, L .meet-self a)
 
   pub sub-meet-r : (a b : ℕ) → Sub A (A .meet a b) b
   sub-meet-r a b = cc (L .meet-assoc a b b, L .meet-self b)
 
-  pub sub-meet : (d a b : ℕ) → Sub A d a → Sub A d b → Sub A d (A .meet a b)
+  sub-meet : (d a b : ℕ) → Sub A d a → Sub A d b → Sub A d (A .meet a b)
   sub-meet d a b p q = cc (L .meet-assoc d a b)
 
   pub sub-zero : (a : ℕ) → Sub A a 0 → a ≡ 0
@@ -78,7 +82,7 @@ module _ (A : Calculus) (L : Lawful A) where
     pub reached-closed : (G₀ G : Cells) → Reached A n G₀ G → Closed A n G → Closing A n G₀ G
     reached-closed G₀ G r c = record { closed = c; inside = r .inside; largest = r .keeps }
 
-    pub zero-closed : Closed A n (λ i j. 0)
+    zero-closed : Closed A n (λ i j. 0)
     zero-closed i j k hi hj hk = L .meet-comm 0 (A .comp i k j 0 0) ∙ L .meet-zero (A .comp i k j 0 0)
 
     -- an empty cell on the way: the closing is empty throughout
@@ -92,32 +96,38 @@ module _ (A : Calculus) (L : Lawful A) where
               rw (closed-empty D cl a b ha hb z i j hi hj) (L .meet-self 0);
         }
 
-    module _ (G G' : Cells) (i j k : ℕ) (hi : i < n) (hj : j < n) (hk : k < n) (m : Mirrored A n G) (c : IsCut A n G G' i j k) where
-      -- a cell of G' by cases: cut, mirror of cut, or as it was
-      pub cut-cases : (P : ℕ → ℕ → ℕ → Type 0) → P i k (cutTo A G i j k) → P k i (A .conv (cutTo A G i j k)) → ((a b : ℕ) → a < n → b < n → ((a ≡ i) × (b ≡ k) → ⊥) → ((a ≡ k) × (b ≡ i) → ⊥) → P a b (G a b)) → (a b : ℕ) → a < n → b < n → P a b (G' a b)
-      cut-cases P h mi re a b ha hb = go (ℕ-discrete a i) (ℕ-discrete b k) (ℕ-discrete a k) (ℕ-discrete b i)
+    module _ (G G' : Cells) (i k v : ℕ) (c : IsPut A n G G' i k v) where
+      -- a cell of G' is the one put, its mirror, or as it was
+      pub put-cases : (P : ℕ → ℕ → ℕ → Type 0) → P i k v → P k i (A .conv v)
+          → ((a b : ℕ) → a < n → b < n → ((a ≡ i) × (b ≡ k) → ⊥) → ((a ≡ k) × (b ≡ i) → ⊥) → P a b (G a b)) → (a b : ℕ) → a < n → b < n → P a b (G' a b)
+      put-cases P one two others a b ha hb = go (ℕ-discrete a i) (ℕ-discrete b k) (ℕ-discrete a k) (ℕ-discrete b i)
         where
-          rest′ : ((a ≡ i) × (b ≡ k) → ⊥) → ((a ≡ k) × (b ≡ i) → ⊥) → P a b (G' a b)
-          rest′ p q = rw (c .rest a b ha hb p q) (re a b ha hb p q)
+          other : ((a ≡ i) × (b ≡ k) → ⊥) → ((a ≡ k) × (b ≡ i) → ⊥) → P a b (G' a b)
+          other p q = rw (c .rest a b ha hb p q) (others a b ha hb p q)
 
-          this : a ≡ i → b ≡ k → P a b (G' a b)
-          this p q = rw (p, q, c .here) h
-
-          that : a ≡ k → b ≡ i → P a b (G' a b)
-          that p q = rw (p, q, c .mirror) mi
-
-          go₂ : ((a ≡ i) × (b ≡ k) → ⊥) → Dec (a ≡ k) → Dec (b ≡ i) → P a b (G' a b)
-          go₂ no₁ (yes p) (yes q) = that p q
-          go₂ no₁ (yes p) (no q) = rest′ no₁ (λ w. q (w .1))
-          go₂ no₁ (no p) d = rest′ no₁ (λ w. p (w .0))
+          not-here : ((a ≡ i) × (b ≡ k) → ⊥) → Dec (a ≡ k) → Dec (b ≡ i) → P a b (G' a b)
+          not-here p (yes q) (yes r) = rw (q, r, c .mirror) two
+          not-here p (yes q) (no r) = other p (λ w. r (w .1))
+          not-here p (no q) r = other p (λ w. q (w .0))
 
           go : Dec (a ≡ i) → Dec (b ≡ k) → Dec (a ≡ k) → Dec (b ≡ i) → P a b (G' a b)
-          go (yes p) (yes q) d e = this p q
-          go (yes p) (no q) d e = go₂ (λ w. q (w .1)) d e
-          go (no p) f d e = go₂ (λ w. p (w .0)) d e
+          go (yes p) (yes q) d e = rw (p, q, c .here) one
+          go (yes p) (no q) d e = not-here (λ w. q (w .1)) d e
+          go (no p) q d e = not-here (λ w. p (w .0)) d e
 
+      module _ (m : Mirrored A n G) where
+        pub put-within : i < n → k < n → Sub A v (G i k) → Within A n G' G
+        put-within hi hk s =
+            put-cases (λ a b x. Sub A x (G a b)) s (rw (m i k hi hk) (conv-mono v (G i k) s)) (λ a b ha hb p q. sub-refl (G a b))
+
+        pub put-mirrored : A .conv (A .conv v) ≡ v → Mirrored A n G'
+        put-mirrored back =
+            put-cases (λ a b x. G' b a ≡ A .conv x) (c .mirror) (c .here ∙ sym back)
+            (λ a b ha hb p q. c .rest b a hb ha (λ w. q (w .1, w .0)) (λ w. p (w .1, w .0)) ∙ m a b ha hb)
+
+    module _ (G G' : Cells) (i j k : ℕ) (hi : i < n) (hj : j < n) (hk : k < n) (m : Mirrored A n G) (c : IsCut A n G G' i j k) where
       pub cut-within : Within A n G' G
-      cut-within = cut-cases (λ a b x. Sub A x (G a b)) (sub-meet-l _ _) (rw (m i k hi hk) (conv-mono _ _ (sub-meet-l _ _))) (λ a b ha hb p q. sub-refl (G a b))
+      cut-within = put-within G G' i k (cutTo A G i j k) c m hi hk (sub-meet-l _ _)
 
       pub mirror-cut : A .conv (cutTo A G i j k) ≡ A .meet (G k i) (A .comp k j i (G k j) (G j i))
       mirror-cut = cc (L .conv-meet (G i k) (A .comp i j k (G i j) (G j k)), L .conv-comp i j k (G i j) (G j k), m i k hi hk, m j k hj hk, m i j hi hj)
@@ -129,14 +139,12 @@ module _ (A : Calculus) (L : Lawful A) where
       allowed D cl w a b c ha hb hc =
           sub-meet _ _ _ (w a b ha hb) (sub-trans _ _ _ (cl a b c ha hb hc) (L .comp-mono a c b _ _ _ _ (w a c ha hc) (w c b hc hb)))
 
-      pub cut-keeps : (D : Cells) → Closed A n D → Within A n D G → Within A n D G'
+      cut-keeps : (D : Cells) → Closed A n D → Within A n D G → Within A n D G'
       cut-keeps D cl w =
-          cut-cases (λ a b x. Sub A (D a b) x) (allowed D cl w i k j hi hk hj) (rw mirror-cut (allowed D cl w k i j hk hi hj)) (λ a b ha hb p q. w a b ha hb)
+          put-cases G G' i k (cutTo A G i j k) c (λ a b x. Sub A (D a b) x) (allowed D cl w i k j hi hk hj) (rw mirror-cut (allowed D cl w k i j hk hi hj)) (λ a b ha hb p q. w a b ha hb)
 
-      pub cut-mirrored : Mirrored A n G'
-      cut-mirrored =
-          cut-cases (λ a b x. G' b a ≡ A .conv x) (c .mirror) (c .here ∙ sym mirror-back)
-          (λ a b ha hb p q. c .rest b a hb ha (λ w. q (w .1, w .0)) (λ w. p (w .1, w .0)) ∙ m a b ha hb)
+      cut-mirrored : Mirrored A n G'
+      cut-mirrored = put-mirrored G G' i k (cutTo A G i j k) c m mirror-back
 
     pub reached-cut : (G₀ G G' : Cells) (i j k : ℕ) → i < n → j < n → k < n → Reached A n G₀ G → IsCut A n G G' i j k → Reached A n G₀ G'
     reached-cut G₀ G G' i j k hi hj hk r c =

@@ -11,20 +11,23 @@ use Rattle.theory.specs.Calculus.{Calculus, Sub}
 use Rattle.theory.specs.Closing.{Closing}
 use Rattle.theory.specs.Line.{joins, pairOf}
 use Rattle.theory.specs.Quick.{cutTo, Out, dead, going, cut, shrunk}
-use Rattle.theory.proofs.ClosingLaws.{IsCut, Reached, cut-within, cut-cases, mirror-back, reached-cut, reached-empty, sub-trans}
+use Rattle.theory.proofs.ClosingLaws.{IsPut, IsCut, Reached, put-cases, cut-within, mirror-back, reached-cut, reached-empty, sub-trans}
 use Rattle.theory.proofs.Lawful.{Lawful}
 use Rattle.theory.proofs.QuickLaws.{shrunk-same, shrunk-dead, shrunk-written}
 
--- a put and its mirror make the cut grid
-pub put-cut : (A : Calculus) (n : ℕ) (g : List ℕ) → n * n ≤ length g → (a m b : ℕ) → a < n → b < n → (a ≡ b → ⊥)
-    → IsCut A n (cell n g) (cell n (putBoth (A .conv) n g a b (cutTo A (cell n g) a m b))) a m b
-put-cut A n g fits a m b ha hb ne =
-    let v = cutTo A (cell n g) a m b in
+-- a put in a list, with its mirror
+pub put-both : (A : Calculus) (n : ℕ) (g : List ℕ) → n * n ≤ length g → (a b v : ℕ) → a < n → b < n → (a ≡ b → ⊥)
+    → IsPut A n (cell n g) (cell n (putBoth (A .conv) n g a b v)) a b v
+put-both A n g fits a b v ha hb ne =
     record {
       here = cell-both-here (A .conv) n g fits a b v ha hb ne;
       mirror = cell-both-mirror (A .conv) n g fits a b v ha hb;
       rest = λ x y hx hy p q. cell-both-other (A .conv) n g fits a b v ha hb x y hy p q;
     }
+
+pub put-cut : (A : Calculus) (n : ℕ) (g : List ℕ) → n * n ≤ length g → (a m b : ℕ) → a < n → b < n → (a ≡ b → ⊥)
+    → IsCut A n (cell n g) (cell n (putBoth (A .conv) n g a b (cutTo A (cell n g) a m b))) a m b
+put-cut A n g fits a m b ha hb ne = put-both A n g fits a b (cutTo A (cell n g) a m b) ha hb ne
 
 pub record Good (A : Calculus) (n : ℕ) (g₀ g : List ℕ) : Type 0 where
   pub fits : n * n ≤ length g
@@ -58,7 +61,7 @@ module _ (A : Calculus) (L : Lawful A) (n : ℕ) (g₀ g : List ℕ) (G : Good A
   pub is-cut : IsCut A n (cell n g) (cell n g') a m b
   is-cut = put-cut A n g (G .fits) a m b ha hb ne
 
-  pub reached-put : Reached A n (cell n g₀) (cell n g')
+  reached-put : Reached A n (cell n g₀) (cell n g')
   reached-put = reached-cut A L n (cell n g₀) (cell n g) (cell n g') a m b ha hm hb (G .reached) is-cut
 
   fits-both : n * n ≤ length g'
@@ -72,7 +75,7 @@ module _ (A : Calculus) (L : Lawful A) (n : ℕ) (g₀ g : List ℕ) (G : Good A
         diagonal = λ i hi. is-cut .rest i i hi hi (λ w. ne (sym (w .0) ∙ w .1)) (λ w. ne (sym (w .1) ∙ w .0)) ∙ G .diagonal i hi;
         topped = λ i j hi hj. sub-trans A L _ _ _ (cut-within A L n (cell n g) (cell n g') a m b ha hm hb (G .reached .mirrored) is-cut i j hi hj) (G .topped i j hi hj);
         full =
-            cut-cases A L n (cell n g) (cell n g') a m b ha hm hb (G .reached .mirrored) is-cut (λ x y c. c ≡ 0 → ⊥) nz
+            put-cases A L n (cell n g) (cell n g') a b v is-cut (λ x y c. c ≡ 0 → ⊥) nz
             (λ z. nz (sym (mirror-back A L n (cell n g) (cell n g') a m b ha hm hb (G .reached .mirrored) is-cut) ∙ ap (A .conv) z ∙ L .conv-zero))
             (λ x y hx hy p q. G .full x y hx hy);
       }

@@ -8,7 +8,8 @@ use native.Mathlib.Omega.{arith}
 use native.Mathlib.Decide.{ℕ-discrete}
 use borrow.Author.Tests.{eq-eqb, ne-eqb}
 use lib.ListN.{length, length-append}
-use Rattle.theory.specs.Line.{pairOf, one-if, occurs, joins}
+use Rattle.relation.specs.Sets.{digit}
+use Rattle.theory.specs.Line.{pairOf, occurs, joins}
 
 -- the number of a pair of two of n events
 abbrev pub IsPair : ℕ → ℕ → Type 0
@@ -21,7 +22,7 @@ occurs-append p (x ∷ q) r = omega (arith, occurs-append p q r)
 
 pub occurs-cons-same : (p : ℕ) (q : List ℕ) → occurs p (p ∷ q) ≡ 1 + occurs p q
 unfolding occurs
-occurs-cons-same p q = ap (λ (b : Bool). one-if b + occurs p q) (eq-eqb p p refl)
+occurs-cons-same p q = ap (λ (b : Bool). digit b + occurs p q) (eq-eqb p p refl)
 
 pub occurs-cons-other : (c p : ℕ) (q : List ℕ) → (c ≡ p → ⊥) → occurs c (p ∷ q) ≡ occurs c q
 unfolding occurs
@@ -59,8 +60,9 @@ pair-same p q = ap₂ pairOf p q
 pub pair-swap : {a b x y : ℕ} → a ≡ y → b ≡ x → pairOf a b ≡ pairOf x y
 pair-swap {a} {b} p q = pair-comm a b ∙ ap₂ pairOf q p
 
-pub pair-r : (a b y : ℕ) → a < 32 → b < 32 → y < 32 → pairOf a b ≡ pairOf a y → b ≡ y
-pair-r a b y ha hb hy e = omega arith
+-- pairs with one event in common
+pub pair-second : (a b y : ℕ) → a < 32 → b < 32 → y < 32 → pairOf a b ≡ pairOf a y → b ≡ y
+pair-second a b y ha hb hy e = omega arith
 
 pub pair-events : (a b x y : ℕ) → a < 32 → b < 32 → x < 32 → y < 32 → pairOf a b ≡ pairOf x y → ((a ≡ x) × (b ≡ y)) ⊎ ((a ≡ y) × (b ≡ x))
 pair-events a b x y ha hb hx hy e = go (ℕ-discrete a x) (ℕ-discrete a y)
@@ -69,8 +71,8 @@ pair-events a b x y ha hb hx hy e = go (ℕ-discrete a x) (ℕ-discrete a y)
     none p q = omega arith
 
     go : Dec (a ≡ x) → Dec (a ≡ y) → ((a ≡ x) × (b ≡ y)) ⊎ ((a ≡ y) × (b ≡ x))
-    go (yes p) d = inl (p, pair-r a b y ha hb hy (e ∙ pair-same (sym p) refl))
-    go (no p) (yes q) = inr (q, pair-r a b x ha hb hx (e ∙ pair-swap refl (sym q)))
+    go (yes p) d = inl (p, pair-second a b y ha hb hy (e ∙ pair-same (sym p) refl))
+    go (no p) (yes q) = inr (q, pair-second a b x ha hb hx (e ∙ pair-swap refl (sym q)))
     go (no p) (no q) = absurd (none p q)
 
 pub pair-ok : (n x y : ℕ) → n ≤ 32 → x < n → y < n → (x ≡ y → ⊥) → IsPair n (pairOf x y)

@@ -75,10 +75,10 @@ scenario-closed n P i j k hi hj hk =
     (compose-placed (P i) (P k) (P j) (scenarioOf P i k) (scenarioOf P k j) (member-self (relOf (P i) (P k)) (relOf-lt (P i) (P k)))
     (member-self (relOf (P k) (P j)) (relOf-lt (P k) (P j))))
 
-pub uses-within : (n : ℕ) (P : ℕ → Event) (G : Cells) → Uses n P G → Within allen n (scenarioOf P) G
+uses-within : (n : ℕ) (P : ℕ → Event) (G : Cells) → Uses n P G → Within allen n (scenarioOf P) G
 uses-within n P G u i j hi hj = mark-inside (relOf (P i) (P j)) (G i j) (relOf-lt (P i) (P j)) (u i j hi hj)
 
-pub within-uses : (n : ℕ) (P : ℕ → Event) (G : Cells) → Within allen n (scenarioOf P) G → Uses n P G
+within-uses : (n : ℕ) (P : ℕ → Event) (G : Cells) → Within allen n (scenarioOf P) G → Uses n P G
 within-uses n P G w i j hi hj = inside-mark (relOf (P i) (P j)) (G i j) (relOf-lt (P i) (P j)) (w i j hi hj)
 
 -- a smaller grid that a placing meets

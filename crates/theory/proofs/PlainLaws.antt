@@ -6,19 +6,19 @@ use mathlib.Core.Bool.{Bool, true, false}
 use Prim.Native.Nat.{ℕ, _+_, _*_, _/_, _%_, _≤_, _<_}
 use native.Mathlib.Omega.{arith}
 use native.Mathlib.Nat.{le-refl}
-use native.Mathlib.Decide.{ℕ-discrete, decLt}
+use native.Mathlib.Decide.{decLt}
 use lib.ListN.{length}
 use Rattle.grid.specs.Cells.{cell, putBoth}
 use Rattle.grid.proofs.CellLaws.{putBoth-length}
 use Rattle.theory.specs.Calculus.{Calculus, Sub}
-use Rattle.theory.specs.Closing.{Closed, Closing}
+use Rattle.theory.specs.Closing.{Closing}
 use Rattle.theory.specs.Line.{pairOf, allPairs}
 use Rattle.theory.specs.Sweeps.{Distinct, value, Shrinks, Cuts, none, more, DeadEnd, weight, orb, Progress}
 use Rattle.theory.proofs.ClosingLaws.{IsCut, reached-closed, mirror-cut}
 use Rattle.theory.proofs.KeepLaws.{Good, put-cut, is-cut, good-shrank, good-dead}
 use Rattle.theory.proofs.Lawful.{Lawful, EqLawful}
 use Rattle.theory.proofs.LineLaws.{IsPair, pair-number, pair-low, pair-same, pair-swap}
-use Rattle.theory.proofs.SettledLaws.{Via}
+use Rattle.theory.proofs.SettledLaws.{Via, closed-apart}
 use Rattle.theory.proofs.StartLaws.{pairs-all, waits-all}
 use Rattle.theory.proofs.TakeLaws.{Sized, sum-falls}
 
@@ -27,7 +27,7 @@ cuts-trans A n g g₁ p none = p
 cuts-trans A n g g₁ p (more q s) = more (cuts-trans A n g g₁ p q) s
 
 module _ (A : Calculus) (inside : (a b : ℕ) → Sub A (A .meet a b) a) (size : ℕ → ℕ) (Z : Sized A size) (n : ℕ) (few : n ≤ 32) where
-  pub shrinks-less : (g g' : List ℕ) → n * n ≤ length g → Shrinks A n g g' → weight size n g' < weight size n g
+  shrinks-less : (g g' : List ℕ) → n * n ≤ length g → Shrinks A n g g' → weight size n g' < weight size n g
   shrinks-less g g' fits s =
       rw (s .is)
       (omega (
@@ -108,9 +108,6 @@ module _ (A : Calculus) (inside : (a b : ℕ) → Sub A (A .meet a b) a) (size :
             );
       }
 
-  pub progress-fits : (S : ℕ → ℕ → ℕ → Type 0) (g g' : List ℕ) (c : Bool) → n * n ≤ length g → Progress A size n S g g' c → n * n ≤ length g'
-  progress-fits S g g' c fits p = cuts-fit g fits (p .cuts)
-
 pub dead-then : (A : Calculus) (n : ℕ) (g g₁ : List ℕ) → Cuts A n g g₁ → DeadEnd A n g₁ → DeadEnd A n g
 dead-then A n g g₁ p d =
     record { at = d .at; cuts = cuts-trans A n g g₁ p (d .cuts); a = d .a; m = d .m; b = d .b; route = d .route; empty = d .empty }
@@ -127,7 +124,7 @@ module _ (A : Calculus) (L : Lawful A) (n : ℕ) (g₀ : List ℕ) where
 
   -- a sweep over all routes of cells above the diagonal that changes nothing: closed
   pub still-closed : EqLawful A → (g : List ℕ) → Good A n g₀ g → ((a m b : ℕ) → a < b → Distinct n a b m → value A n g a m b ≡ cell n g a b) → Closing A n (cell n g₀) (cell n g)
-  still-closed E g G all = reached-closed A L n (cell n g₀) (cell n g) (G .reached) close
+  still-closed E g G all = reached-closed A L n (cell n g₀) (cell n g) (G .reached) (closed-apart A E n g₀ g G (λ i j k d. apart i j k d (decLt i j)))
     where
       back : (a m b : ℕ) → a < b → Distinct n a b m → Via A n g b a m
       back a m b h d =
@@ -143,12 +140,3 @@ module _ (A : Calculus) (L : Lawful A) (n : ℕ) (g₀ : List ℕ) where
       apart i j k d (no h) =
           let ne : i ≡ j → ⊥ = d .ab in
           back j k i (omega arith) (record { ha = d .hb; hb = d .ha; hc = d .hc; ab = λ e. d .ab (sym e); bc = d .ac; ac = d .bc })
-
-      close : Closed A n (cell n g)
-      close i j k hi hj hk = go (ℕ-discrete i k) (ℕ-discrete k j) (ℕ-discrete i j)
-        where
-          go : Dec (i ≡ k) → Dec (k ≡ j) → Dec (i ≡ j) → Via A n g i j k
-          go (yes p) d e = rw (← p, G .diagonal i hi) (E .eq-l i j (cell n g i j) (G .topped i j hi hj))
-          go (no p) (yes q) e = rw (q, G .diagonal j hj) (E .eq-r i j (cell n g i j) (G .topped i j hi hj))
-          go (no p) (no q) (yes e) = rw (← e, G .diagonal i hi, G .reached .mirrored i k hi hk) (E .eq-in i k (cell n g i k) (G .topped i k hi hk) (G .full i k hi hk))
-          go (no p) (no q) (no e) = apart i j k (record { ha = hi; hb = hj; hc = hk; ab = e; bc = λ z. q (sym z); ac = p }) (decLt i j)

@@ -6,7 +6,7 @@ use mathlib.Core.List.{List, [], _∷_}
 use Prim.Native.Nat.{ℕ, zero, suc, _+_, _≤_, _<_}
 use native.Mathlib.Nat.{eq-or-lt-of-le}
 use native.Mathlib.Omega.{arith}
-use borrow.Author.Tests.{ltb-true, ltb-false, eqb-true}
+use borrow.Author.Tests.{ltb-true, ltb-false, eqb-true, eqb-false}
 use lib.Dec.{eqb, ltb}
 use Rattle.theory.specs.Search.{Pair, Tried, emptied, closed, Found, placed, none, gaveUp, orNext, afterTry, tryIf, turnOf, relationsFrom, pastLast, searchFrom}
 
@@ -28,6 +28,41 @@ gave-placed e = let z : _≡_ {A = ℕ} 0 1 = cc in omega arith
 
 none-placed : {u v : ℕ} {l : List ℕ} → none u ≡ placed v l → ⊥
 none-placed e = let z : _≡_ {A = ℕ} 0 1 = cc in omega arith
+
+-- ---- the tries are never more than the allowance
+
+abbrev pub triesOf : Found → ℕ
+triesOf (placed t g) = t
+triesOf (none t) = t
+triesOf (gaveUp t) = t
+
+module _ (there : Pair → ℕ → List ℕ → Bool) (attempt : Pair → ℕ → List ℕ → Tried) (fits : List ℕ → Bool) (a : ℕ) where
+  next-within : (x : Found) (next : ℕ → Found) → triesOf x ≤ a → ((u : ℕ) → u ≤ a → triesOf (next u) ≤ a) → triesOf (orNext x next) ≤ a
+  next-within (placed t g) next h n = h
+  next-within (none t) next h n = n t h
+  next-within (gaveUp t) next h n = h
+
+  relations-within : (rest : List ℕ → ℕ → Found) → ((g : List ℕ) (t : ℕ) → t ≤ a → triesOf (rest g t) ≤ a)
+      → (p : Pair) (g : List ℕ) (k r t : ℕ) → t ≤ a → triesOf (relationsFrom there attempt a rest p g k r t) ≤ a
+  unfolding relationsFrom
+  relations-within rest w p g zero r t h = h
+  relations-within rest w p g (suc k) r t h = by (there p r g) (eqb t a) (attempt p r g) refl (relations-within rest w p g k (r + 1))
+    where
+      by : (b used : Bool) (s : Tried) → eqb t a ≡ used → ((u : ℕ) → u ≤ a → triesOf (relationsFrom there attempt a rest p g k (r + 1) u) ≤ a)
+          → triesOf (turnOf b used s t rest (λ u. relationsFrom there attempt a rest p g k (r + 1) u)) ≤ a
+      by false used s e n = n t h
+      by true true s e n = h
+      by true false emptied e n = let ne = eqb-false t a e in n (t + 1) (omega arith)
+      by true false (closed g') e n = let ne = eqb-false t a e in next-within (rest g' (t + 1)) _ (w g' (t + 1) (omega arith)) n
+
+  pub tries-within : (ps : List Pair) (g : List ℕ) (t : ℕ) → t ≤ a → triesOf (searchFrom there attempt fits a ps g t) ≤ a
+  unfolding searchFrom
+  tries-within [] g t h = by (fits g)
+    where
+      by : (b : Bool) → triesOf (pastLast b t g) ≤ a
+      by true = h
+      by false = h
+  tries-within (p ∷ ps) g t h = relations-within (searchFrom there attempt fits a ps) (tries-within ps) p g 13 0 t h
 
 -- ---- how a relation's turn went
 

@@ -9,16 +9,28 @@ use Rattle.grid.specs.Cells.{cell, putBoth}
 use Rattle.theory.specs.Calculus.{Calculus, Sub}
 use Rattle.theory.specs.Closing.{Closed, Closing}
 use Rattle.theory.specs.Line.{joins, pairOf, occurs}
-use Rattle.theory.specs.Quick.{cutTo, Out, dead, going, andThen, cut, turn, turns, take, run, goOn, Ended, contradiction, closed, paused}
+use Rattle.theory.specs.Quick.{cutTo, Out, dead, going, andThen, cut, cutBack, turn, turns, take, run, goOn, Ended, contradiction, closed, paused}
 use Rattle.theory.specs.Sweeps.{Distinct}
 use Rattle.theory.proofs.ClosingLaws.{IsCut, cut-within, mirror-cut, reached-closed, sub-trans, sub-meet-r}
 use Rattle.theory.proofs.KeepLaws.{Good, Came, same, emptied, shrank, came, is-cut, good-shrank, good-dead}
 use Rattle.theory.proofs.Lawful.{Lawful, EqLawful}
-use Rattle.theory.proofs.LineLaws.{IsPair, joins-keeps, joins-here, joins-only, occurs-cons-same, occurs-cons-other, occurs-nil, pair-comm, pair-same, pair-swap, pair-r, pair-events, pair-ok}
+use Rattle.theory.proofs.LineLaws.{IsPair, joins-keeps, joins-here, joins-only, occurs-cons-same, occurs-cons-other, occurs-nil, pair-comm, pair-same, pair-swap, pair-second, pair-events, pair-ok}
 use Rattle.theory.proofs.QuickLaws.{turn-skip-i, turn-skip-j, turn-is}
 
+-- (a, b) lies inside what (a, c) with (c, b) allows
 abbrev pub Via : Calculus → ℕ → List ℕ → ℕ → ℕ → ℕ → Type 0
 Via A n g a b c = Sub A (cell n g a b) (A .comp a c b (cell n g a c) (cell n g c b))
+
+-- routes with two equal events always hold, so those over three different ones are enough
+pub closed-apart : (A : Calculus) → EqLawful A → (n : ℕ) (g₀ g : List ℕ) → Good A n g₀ g → ((i j k : ℕ) → Distinct n i j k → Via A n g i j k)
+    → Closed A n (cell n g)
+closed-apart A E n g₀ g G apart i j k hi hj hk = go (ℕ-discrete i k) (ℕ-discrete k j) (ℕ-discrete i j)
+  where
+    go : Dec (i ≡ k) → Dec (k ≡ j) → Dec (i ≡ j) → Via A n g i j k
+    go (yes p) d e = rw (← p, G .diagonal i hi) (E .eq-l i j (cell n g i j) (G .topped i j hi hj))
+    go (no p) (yes q) e = rw (q, G .diagonal j hj) (E .eq-r i j (cell n g i j) (G .topped i j hi hj))
+    go (no p) (no q) (yes e) = rw (← e, G .diagonal i hi, G .reached .mirrored i k hi hk) (E .eq-in i k (cell n g i k) (G .topped i k hi hk) (G .full i k hi hk))
+    go (no p) (no q) (no e) = apart i j k (record { ha = hi; hb = hj; hc = hk; ab = e; bc = λ z. q (sym z); ac = p })
 
 abbrev pub Waits : List ℕ → ℕ → ℕ → Type 0
 Waits q a b = 0 < occurs (pairOf a b) q
@@ -99,10 +111,10 @@ module _ (A : Calculus) (L : Lawful A) (n : ℕ) (few : n ≤ 32) (g₀ g q : Li
 
   -- the two pairs of the route are not the pair that is cut
   not-xm : pairOf x m ≡ pairOf x y → ⊥
-  not-xm e = d .bc (sym (pair-r x m y bx bm by e))
+  not-xm e = d .bc (sym (pair-second x m y bx bm by e))
 
   not-my : pairOf m y ≡ pairOf x y → ⊥
-  not-my e = d .ac (sym (pair-r y m x by bm bx (pair-comm y m ∙ e ∙ pair-comm x y)))
+  not-my e = d .ac (sym (pair-second y m x by bm bx (pair-comm y m ∙ e ∙ pair-comm x y)))
 
   there-shrank : Via A n g' x y m
   there-shrank = rw (other x m (d .ha) (d .hc) not-xm, other m y (d .hc) (d .hb) not-my, cutted .here) (sub-meet-r A L _ _)
@@ -219,9 +231,13 @@ module _ (A : Calculus) (L : Lawful A) (n : ℕ) (few : n ≤ 32) (g₀ : List �
     second g q g₁ q₁ M s₁ dead z = z
     second g q g₁ q₁ M s₁ (going g₂ q₂) s₂ = record { good = s₂ .good; pairs = s₂ .pairs; mid = mid-turn g q g₁ q₁ g₂ q₂ s₁ s₂ M }
 
-    first : (g q : List ℕ) → Mid A n i j k g q → (o : Out) → After A n g₀ g q i j k o → Turned A n g₀ i j (suc k) (andThen o (cut A n k i j))
+    -- the second cut: what was served is, and (k, j) joins if it shrank
+    back-ok : (g q : List ℕ) → Good A n g₀ g → Pairs n q → After A n g₀ g q k i j (cutBack A n i j k g q)
+    back-ok g q G Q = cut-ok A L n few g₀ g q G Q k i j d₂
+
+    first : (g q : List ℕ) → Mid A n i j k g q → (o : Out) → After A n g₀ g q i j k o → Turned A n g₀ i j (suc k) (andThen o (cutBack A n i j k))
     first g q M dead z = z
-    first g q M (going g₁ q₁) s₁ = second g q g₁ q₁ M s₁ (cut A n k i j g₁ q₁) (cut-ok A L n few g₀ g₁ q₁ (s₁ .good) (s₁ .pairs) k i j d₂)
+    first g q M (going g₁ q₁) s₁ = second g q g₁ q₁ M s₁ (cutBack A n i j k g₁ q₁) (back-ok g₁ q₁ (s₁ .good) (s₁ .pairs))
 
   turn-ok : (k : ℕ) → k < n → (g q : List ℕ) → Between A n g₀ i j k g q → Turned A n g₀ i j (suc k) (turn A n i j k g q)
   turn-ok k hk g q B = go (ℕ-discrete k i) (ℕ-discrete k j)
@@ -239,7 +255,7 @@ module _ (A : Calculus) (L : Lawful A) (n : ℕ) (few : n ≤ 32) (g₀ : List �
       go (inr (inl o)) = absurd (omega (arith, o .1, t .hb))
       go (inr (inr o)) = absurd (omega (arith, o .1, t .ha))
 
-  pub turns-ok : (f k : ℕ) → k + f ≡ n → (g q : List ℕ) → Between A n g₀ i j k g q → Taken A n g₀ (turns A n i j f k g q)
+  turns-ok : (f k : ℕ) → k + f ≡ n → (g q : List ℕ) → Between A n g₀ i j k g q → Taken A n g₀ (turns A n i j f k g q)
   unfolding turns
   turns-ok zero k e g q B =
       let z : k ≡ n = omega arith in
@@ -266,7 +282,8 @@ mid-start A n p few ok g q S a b c t = go (S a b c t)
     go (inr (inl w)) = ⊎-elim (λ e. inr (inl (e ∙ number, omega arith))) (λ h. inl (inr (inl h))) (waits (pairOf a c) w (ℕ-discrete (pairOf a c) p))
     go (inr (inr w)) = ⊎-elim (λ e. inr (inr (e ∙ number, omega arith))) (λ h. inl (inr (inr h))) (waits (pairOf c b) w (ℕ-discrete (pairOf c b) p))
 
-pairs-rest : (n p : ℕ) (q : List ℕ) → Pairs n (p ∷ q) → Pairs n q
+-- all that wait after the first are pairs too
+pub pairs-rest : (n p : ℕ) (q : List ℕ) → Pairs n (p ∷ q) → Pairs n q
 pairs-rest n p q Q x h = Q x (go (ℕ-discrete x p))
   where
     go : Dec (x ≡ p) → 0 < occurs x (p ∷ q)
@@ -281,20 +298,13 @@ take-ok A L n few g₀ g p q R =
     (record { good = R .good; pairs = pairs-rest n p q (R .pairs); mid = mid-start A n p few ok g q (R .settled) })
 
 -- nothing waits: closed
-pub resting-closed : (A : Calculus) → EqLawful A → (n : ℕ) (g₀ g : List ℕ) → Resting A n g₀ g [] → Closed A n (cell n g)
-resting-closed A E n g₀ g R i j k hi hj hk = go (ℕ-discrete i k) (ℕ-discrete k j) (ℕ-discrete i j)
+resting-closed : (A : Calculus) → EqLawful A → (n : ℕ) (g₀ g : List ℕ) → Resting A n g₀ g [] → Closed A n (cell n g)
+resting-closed A E n g₀ g R = closed-apart A E n g₀ g (R .good) (λ i j k d. via i j k (R .settled i j k d))
   where
-    apart : Served A n g [] i j k → Via A n g i j k
-    apart (inl v) = v
-    apart (inr (inl w)) = absurd (omega (arith, w, occurs-nil (pairOf i k)))
-    apart (inr (inr w)) = absurd (omega (arith, w, occurs-nil (pairOf k j)))
-
-    go : Dec (i ≡ k) → Dec (k ≡ j) → Dec (i ≡ j) → Via A n g i j k
-    go (yes p) d e = rw (← p, R .good .diagonal i hi) (E .eq-l i j (cell n g i j) (R .good .topped i j hi hj))
-    go (no p) (yes q) e = rw (q, R .good .diagonal j hj) (E .eq-r i j (cell n g i j) (R .good .topped i j hi hj))
-    go (no p) (no q) (yes e) =
-        rw (← e, R .good .diagonal i hi, R .good .reached .mirrored i k hi hk) (E .eq-in i k (cell n g i k) (R .good .topped i k hi hk) (R .good .full i k hi hk))
-    go (no p) (no q) (no e) = apart (R .settled i j k (record { ha = hi; hb = hj; hc = hk; ab = e; bc = λ z. q (sym z); ac = p }))
+    via : (i j k : ℕ) → Served A n g [] i j k → Via A n g i j k
+    via i j k (inl v) = v
+    via i j k (inr (inl w)) = absurd (omega (arith, w, occurs-nil (pairOf i k)))
+    via i j k (inr (inr w)) = absurd (omega (arith, w, occurs-nil (pairOf k j)))
 
 -- how a run ends
 abbrev pub Right : Calculus → ℕ → List ℕ → Ended → Type 0

@@ -19,7 +19,7 @@ snoc-cases x y q h = go (ℕ-discrete x y)
     go (yes e) = inr e
     go (no ne) = inl (omega (arith, h, occurs-append x q (y ∷ []), occurs-cons-other x y [] ne, occurs-nil x))
 
-pub row-in : (i c x : ℕ) → 0 < occurs x (rowTo i c) → (i * 32 + i < x) × (x ≤ i * 32 + i + c)
+row-in : (i c x : ℕ) → 0 < occurs x (rowTo i c) → (i * 32 + i < x) × (x ≤ i * 32 + i + c)
 unfolding rowTo
 row-in i zero x h = absurd (omega (arith, h, occurs-nil x))
 row-in i (suc c) x h =
@@ -42,7 +42,7 @@ append-cases x q r h = go (decLt 0 (occurs x q))
     go (yes e) = inl e
     go (no ne) = inr (omega (arith, h, occurs-append x q r))
 
-pub rows-in : (n i x : ℕ) → n ≤ 32 → i ≤ n → 0 < occurs x (rowsTo n i) → (x / 32 < i) × (x / 32 < x % 32) × (x % 32 < n)
+rows-in : (n i x : ℕ) → n ≤ 32 → i ≤ n → 0 < occurs x (rowsTo n i) → (x / 32 < i) × (x / 32 < x % 32) × (x % 32 < n)
 unfolding rowsTo
 rows-in n zero x few h w = absurd (omega (arith, w, occurs-nil x))
 rows-in n (suc i) x few h w =

@@ -17,7 +17,7 @@ use Rattle.theory.proofs.KeepLaws.{Good, Came, same, emptied, shrank, c
 use Rattle.theory.proofs.Lawful.{Lawful}
 use Rattle.theory.proofs.LineLaws.{IsPair, occurs-cons-same, occurs-cons-other, occurs-nil, pair-same, pair-swap, length-joins, pair-number, pair-low}
 use Rattle.theory.proofs.QuickLaws.{turn-skip-i, turn-skip-j, turn-is}
-use Rattle.theory.proofs.SettledLaws.{Pairs, Resting, Taken, take-ok, After, cut-ok}
+use Rattle.theory.proofs.SettledLaws.{Pairs, pairs-rest, Resting, Taken, take-ok, After, cut-ok}
 use Rattle.theory.proofs.StartLaws.{length-all, pairs-all, waits-all}
 
 -- how many members a set has
@@ -28,15 +28,8 @@ pub record Sized (A : Calculus) (size : ℕ → ℕ) : Type 0 where
 pub sum-falls : (n : ℕ) (f f' : ℕ → ℕ) (x : ℕ) → ((p : ℕ) → IsPair n p → (p ≡ x → ⊥) → f' p ≤ f p) → f' x + 1 ≤ f x → (ps : List ℕ) → Pairs n ps → sum f' ps + occurs x ps ≤ sum f ps
 unfolding sum
 sum-falls n f f' x le lt [] P = omega (arith, occurs-nil x)
-sum-falls n f f' x le lt (p ∷ ps) P = go (ℕ-discrete x p) (sum-falls n f f' x le lt ps rest)
+sum-falls n f f' x le lt (p ∷ ps) P = go (ℕ-discrete x p) (sum-falls n f f' x le lt ps (pairs-rest n p ps P))
   where
-    rest : Pairs n ps
-    rest c h = P c (go (ℕ-discrete c p))
-      where
-        go : Dec (c ≡ p) → 0 < occurs c (p ∷ ps)
-        go (yes e) = rw e (omega (arith, occurs-cons-same p ps))
-        go (no ne) = rw (occurs-cons-other c p ps ne) h
-
     go : Dec (x ≡ p) → sum f' ps + occurs x ps ≤ sum f ps → f' p + sum f' ps + occurs x (p ∷ ps) ≤ f p + sum f ps
     go (yes e) r = rw (← e) (omega (arith, occurs-cons-same x ps))
     go (no ne) r = omega (arith, occurs-cons-other x p ps ne, le p (P p (omega (arith, occurs-cons-same p ps))) (λ e. ne (sym e)))
@@ -44,14 +37,7 @@ sum-falls n f f' x le lt (p ∷ ps) P = go (ℕ-discrete x p) (sum-falls n f f' 
 sum-most : (n k : ℕ) (f : ℕ → ℕ) → ((p : ℕ) → IsPair n p → f p ≤ k) → (ps : List ℕ) → Pairs n ps → sum f ps ≤ k * length ps
 unfolding sum
 sum-most n k f le [] P = omega arith
-sum-most n k f le (p ∷ ps) P = omega (arith, le p (P p (omega (arith, occurs-cons-same p ps))), sum-most n k f le ps rest)
-  where
-    rest : Pairs n ps
-    rest c h = P c (go (ℕ-discrete c p))
-      where
-        go : Dec (c ≡ p) → 0 < occurs c (p ∷ ps)
-        go (yes e) = rw e (omega (arith, occurs-cons-same p ps))
-        go (no ne) = rw (occurs-cons-other c p ps ne) h
+sum-most n k f le (p ∷ ps) P = omega (arith, le p (P p (omega (arith, occurs-cons-same p ps))), sum-most n k f le ps (pairs-rest n p ps P))
 
 -- the members that the cells of the pairs can still lose
 abbrev pub spare : (ℕ → ℕ) → ℕ → List ℕ → ℕ → ℕ
@@ -124,7 +110,7 @@ module _ (A : Calculus) (L : Lawful A) (size : ℕ → ℕ) (S : Sized A size) (
           cutted .rest (p / 32) (p % 32) (pair-low n p ok) (ok .1) (λ w. np (sym number ∙ pair-same (w .0) (w .1))) (λ w. np (sym number ∙ pair-swap (w .0) (w .1))) in
           rw e (le-refl _)
 
-      pub store-falls : store size n g' (joins (pairOf x y) q) ≤ store size n g q
+      store-falls : store size n g' (joins (pairOf x y) q) ≤ store size n g q
       store-falls =
           omega (
             arith,
@@ -160,7 +146,7 @@ module _ (A : Calculus) (n : ℕ) (I : List ℕ → List ℕ → Type 0) (each :
     turns-keep zero k e g q w = w
     turns-keep (suc f) k e g q w = kept-then (turn A n i j k g q) (turns A n i j f (suc k)) (turn-keeps k (omega arith) g q w) (turns-keep f (suc k) (omega arith))
 
-  pub take-keeps : (p : ℕ) → IsPair n p → (g q : List ℕ) → I g q → Kept I (take A n p g q)
+  take-keeps : (p : ℕ) → IsPair n p → (g q : List ℕ) → I g q → Kept I (take A n p g q)
   unfolding take
   take-keeps p ok g q w = turns-keep (p / 32) (p % 32) (pair-low n p ok) (ok .1) (λ e. omega (arith, ok)) n 0 (omega arith) g q w
 
@@ -193,16 +179,9 @@ module _ (A : Calculus) (L : Lawful A) (size : ℕ → ℕ) (S : Sized A size) (
       let e : t + suc f ≡ suc t + f = omega arith in
       rw e
       (go (take A n p g q) (take-ok A L n few g₀ g p q R)
-      (take-keeps A n (Spent (store size n g q)) (cut-spends (store size n g q)) p ok g q (R .good, pairs-tail, omega arith))
+      (take-keeps A n (Spent (store size n g q)) (cut-spends (store size n g q)) p ok g q (R .good, pairs-rest n p q (R .pairs), omega arith))
       (λ g' q' R'. run-bound f (suc t) g' q' R' b))
     where
-      pairs-tail : Pairs n q
-      pairs-tail c w = R .pairs c (more (ℕ-discrete c p))
-        where
-          more : Dec (c ≡ p) → 0 < occurs c (p ∷ q)
-          more (yes e) = rw e (omega (arith, occurs-cons-same p q))
-          more (no ne) = rw (occurs-cons-other c p q ne) w
-
       go : (o : Out) → Taken A n g₀ o → Kept (Spent (store size n g q)) o
           → ((g' q' : List ℕ) → Resting A n g₀ g' q' → suc t + store size n g' q' ≤ b → Bounded (suc t + f) b (run A n f (suc t) g' q'))
           → Bounded (suc t + f) b (goOn o (contradiction (suc t)) (run A n f (suc t)))

@@ -8,13 +8,14 @@ use native.Mathlib.Nat.{mul-le-mul-right}
 use native.Mathlib.Omega.{arith}
 use lib.ListN.{length}
 use Rattle.grid.specs.Cells.{cell, putBoth}
-use Rattle.grid.proofs.CellLaws.{putBoth-length, cell-both-here, cell-both-mirror, cell-both-other}
+use Rattle.grid.proofs.CellLaws.{putBoth-length}
 use Rattle.theory.specs.Calculus.{Calculus, Sub}
 use Rattle.theory.specs.Closing.{Closed, Within}
 use Rattle.theory.specs.Line.{pairOf, occurs, allPairs}
 use Rattle.theory.specs.Quick.{going, turns, closed, paused, run}
 use Rattle.theory.proofs.Lawful.{Lawful, EqLawful}
-use Rattle.theory.proofs.ClosingLaws.{Mirrored, reached-start, sub-refl, sub-trans, conv-mono}
+use Rattle.theory.proofs.ClosingLaws.{Mirrored, IsPut, put-cases, put-within, put-mirrored, reached-start, sub-trans}
+use Rattle.theory.proofs.KeepLaws.{put-both}
 use Rattle.theory.proofs.LineLaws.{IsPair, occurs-cons-same, occurs-cons-other, occurs-nil, pair-same, pair-swap, pair-ok}
 use Rattle.theory.proofs.SettledLaws.{Settled, Served, Pairs, Resting, Right, run-ok}
 use Rattle.theory.proofs.StartLaws.{waits-all}
@@ -51,54 +52,29 @@ module _ (A : Calculus) (L : Lawful A) (n : ℕ) (h : List ℕ) (F : Fine A n h)
   abbrev g : List ℕ
   g = putBoth (A .conv) n h x y v
 
-  here : cell n g x y ≡ v
-  here = cell-both-here (A .conv) n h (F .fits) x y v hx hy ne
-
-  mirror : cell n g y x ≡ A .conv v
-  mirror = cell-both-mirror (A .conv) n h (F .fits) x y v hx hy
-
-  other : (a b : ℕ) → b < n → ((a ≡ x) × (b ≡ y) → ⊥) → ((a ≡ y) × (b ≡ x) → ⊥) → cell n g a b ≡ cell n h a b
-  other a b hb p q = cell-both-other (A .conv) n h (F .fits) x y v hx hy a b hb p q
-
-  -- a cell of the cut grid is the cut one, its mirror, or as it was
-  cases : (P : ℕ → ℕ → ℕ → Type 0) → P x y v → P y x (A .conv v)
-      → ((a b : ℕ) → a < n → b < n → ((a ≡ x) × (b ≡ y) → ⊥) → ((a ≡ y) × (b ≡ x) → ⊥) → P a b (cell n h a b)) → (a b : ℕ) → a < n → b < n → P a b (cell n g a b)
-  cases P one two rest a b ha hb = go (ℕ-discrete a x) (ℕ-discrete b y) (ℕ-discrete a y) (ℕ-discrete b x)
-    where
-      last : ((a ≡ x) × (b ≡ y) → ⊥) → Dec (a ≡ y) → Dec (b ≡ x) → P a b (cell n g a b)
-      last p (yes q) (yes r) = rw (q, r, mirror) two
-      last p (yes q) (no r) = rw (other a b hb p (λ w. r (w .1))) (rest a b ha hb p (λ w. r (w .1)))
-      last p (no q) r = rw (other a b hb p (λ w. q (w .0))) (rest a b ha hb p (λ w. q (w .0)))
-
-      go : Dec (a ≡ x) → Dec (b ≡ y) → Dec (a ≡ y) → Dec (b ≡ x) → P a b (cell n g a b)
-      go (yes p) (yes q) d e = rw (p, q, here) one
-      go (yes p) (no q) d e = last (λ w. q (w .1)) d e
-      go (no p) q d e = last (λ w. p (w .0)) d e
+  is-put : IsPut A n (cell n h) (cell n g) x y v
+  is-put = put-both A n h (F .fits) x y v hx hy ne
 
   pub cut-inside : Within A n (cell n g) (cell n h)
-  cut-inside =
-      cases (λ a b c. Sub A c (cell n h a b)) inside
-      (subst (Sub A (A .conv v)) (sym (F .mirrored x y hx hy)) (conv-mono A L v (cell n h x y) inside)) (λ a b ha hb p q. sub-refl A L (cell n h a b))
+  cut-inside = put-within A L n (cell n h) (cell n g) x y v is-put (F .mirrored) hx hy inside
 
   mirrored : Mirrored A n (cell n g)
-  mirrored =
-      cases (λ a b c. cell n g b a ≡ A .conv c) mirror (here ∙ sym back)
-      (λ a b ha hb p q. other b a ha (λ w. q (w .1, w .0)) (λ w. p (w .1, w .0)) ∙ F .mirrored a b ha hb)
+  mirrored = put-mirrored A L n (cell n h) (cell n g) x y v is-put (F .mirrored) back
 
-  pub cut-fine : Fine A n g
+  cut-fine : Fine A n g
   cut-fine =
       record {
         few = F .few;
         fits = omega (arith, putBoth-length (A .conv) n h x y v, F .fits);
         mirrored = mirrored;
-        diagonal = λ i hi. other i i hi (λ w. ne (sym (w .0) ∙ w .1)) (λ w. ne (sym (w .1) ∙ w .0)) ∙ F .diagonal i hi;
+        diagonal = λ i hi. is-put .rest i i hi hi (λ w. ne (sym (w .0) ∙ w .1)) (λ w. ne (sym (w .1) ∙ w .0)) ∙ F .diagonal i hi;
         topped = λ i j hi hj. sub-trans A L (cell n g i j) (cell n h i j) (A .top i j) (cut-inside i j hi hj) (F .topped i j hi hj);
       }
 
   module _ (full : Full n h) (nz : v ≡ 0 → ⊥) where
     cut-full : Full n g
     cut-full =
-        cases (λ a b c. c ≡ 0 → ⊥) nz (λ z. nz (sym back ∙ ap (A .conv) z ∙ L .conv-zero)) (λ a b ha hb p q. full a b ha hb)
+        put-cases A L n (cell n h) (cell n g) x y v is-put (λ a b c. c ≡ 0 → ⊥) nz (λ z. nz (sym back ∙ ap (A .conv) z ∙ L .conv-zero)) (λ a b ha hb p q. full a b ha hb)
 
     module _ (cl : Closed A n (cell n h)) where
       settled : Settled A n g (pairOf x y ∷ [])
@@ -107,15 +83,15 @@ module _ (A : Calculus) (L : Lawful A) (n : ℕ) (h : List ℕ) (F : Fine A n h)
           waits : (p : ℕ) → p ≡ pairOf x y → 0 < occurs p (pairOf x y ∷ [])
           waits p e = rw e (omega (arith, occurs-cons-same (pairOf x y) []))
 
-          kept : (i j : ℕ) → j < n → (pairOf i j ≡ pairOf x y → ⊥) → cell n g i j ≡ cell n h i j
-          kept i j hj np = other i j hj (λ w. np (pair-same (w .0) (w .1))) (λ w. np (pair-swap (w .0) (w .1)))
+          kept : (i j : ℕ) → i < n → j < n → (pairOf i j ≡ pairOf x y → ⊥) → cell n g i j ≡ cell n h i j
+          kept i j hi hj np = is-put .rest i j hi hj (λ w. np (pair-same (w .0) (w .1))) (λ w. np (pair-swap (w .0) (w .1)))
 
           go : Dec (pairOf a c ≡ pairOf x y) → Dec (pairOf c b ≡ pairOf x y) → Served A n g (pairOf x y ∷ []) a b c
           go (yes e) f = inr (inl (waits (pairOf a c) e))
           go (no e) (yes f) = inr (inr (waits (pairOf c b) f))
           go (no e) (no f) =
               inl
-              (rw (kept a c (t .hc) e, kept c b (t .hb) f)
+              (rw (kept a c (t .ha) (t .hc) e, kept c b (t .hc) (t .hb) f)
               (sub-trans A L (cell n g a b) (cell n h a b) (A .comp a c b (cell n h a c) (cell n h c b)) (cut-inside a b (t .ha) (t .hb))
               (cl a b c (t .ha) (t .hb) (t .hc))))
 

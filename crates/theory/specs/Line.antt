@@ -1,28 +1,22 @@
 -- Document 01, "Quick closing": the waiting list. A pair of events has one number, smaller event first. Assumes nothing.
 use mathlib.Core.List.{List, [], _∷_, _++_}
-use mathlib.Core.Bool.{Bool, true, false}
+use mathlib.Core.Bool.{cond}
 use Prim.Native.Nat.{ℕ, zero, suc, _+_, _-_, _*_, min, max}
 use lib.Dec.{eqb}
+use Rattle.relation.specs.Sets.{digit}
 
+-- the number of the pair of a and b
 abbrev pub pairOf : ℕ → ℕ → ℕ
 pairOf a b = min a b * 32 + max a b
-
-abbrev pub one-if : Bool → ℕ
-one-if true = 1
-one-if false = 0
 
 -- how often p waits
 unfoldable pub occurs : ℕ → List ℕ → ℕ
 occurs p [] = 0
-occurs p (x ∷ q) = one-if (eqb p x) + occurs p q
-
-abbrev pub pick : Bool → List ℕ → List ℕ → List ℕ
-pick true a b = a
-pick false a b = b
+occurs p (x ∷ q) = digit (eqb p x) + occurs p q
 
 -- p joins the end, unless it is waiting already
 unfoldable pub joins : ℕ → List ℕ → List ℕ
-joins p q = pick (eqb (occurs p q) 0) (q ++ (p ∷ [])) q
+joins p q = cond (eqb (occurs p q) 0) (q ++ (p ∷ [])) q
 
 -- the first c pairs of row i
 unfoldable pub rowTo : ℕ → ℕ → List ℕ

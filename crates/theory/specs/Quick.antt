@@ -1,6 +1,6 @@
 -- Document 01, "Quick closing", as a step on grid and waiting list, over any calculus. Assumes nothing.
 use mathlib.Core.List.{List, [], _∷_}
-use mathlib.Core.Bool.{Bool, true, false}
+use mathlib.Core.Bool.{cond}
 use Prim.Native.Nat.{ℕ, zero, suc, _/_, _%_}
 use lib.Dec.{eqb}
 use Rattle.grid.specs.Cells.{cell, putBoth}
@@ -13,10 +13,7 @@ pub data Out : Type 0 where
   dead : Out
   going : List ℕ → List ℕ → Out
 
-abbrev pub choose : Bool → Out → Out → Out
-choose true a b = a
-choose false a b = b
-
+-- what a step left is handed on to the next
 abbrev pub andThen : Out → (List ℕ → List ℕ → Out) → Out
 andThen dead f = dead
 andThen (going g q) f = f g q
@@ -27,7 +24,7 @@ cutTo A G a m b = A .meet (G a b) (A .comp a m b (G a m) (G m b))
 
 -- the new set v of (a, b): it is as it was, or empty, or it is put in the cell and, turned round, in its mirror, and the pair joins the end
 unfoldable pub shrunk : Calculus → ℕ → ℕ → ℕ → ℕ → ℕ → List ℕ → List ℕ → Out
-shrunk A n a b old v g q = choose (eqb v old) (going g q) (choose (eqb v 0) dead (going (putBoth (A .conv) n g a b v) (joins (pairOf a b) q)))
+shrunk A n a b old v g q = cond (eqb v old) (going g q) (cond (eqb v 0) dead (going (putBoth (A .conv) n g a b v) (joins (pairOf a b) q)))
 
 -- cut (a, b) to what (a, m) with (m, b) allows
 unfoldable pub cut : Calculus → ℕ → ℕ → ℕ → ℕ → List ℕ → List ℕ → Out
@@ -39,7 +36,7 @@ cutBack A n i j k g q = cut A n k i j g q
 
 -- k, other than i and j: cut (i, k) to what (i, j) with (j, k) allows, and then the second cut
 unfoldable pub turn : Calculus → ℕ → ℕ → ℕ → ℕ → List ℕ → List ℕ → Out
-turn A n i j k g q = choose (eqb k i) (going g q) (choose (eqb k j) (going g q) (andThen (cut A n i j k g q) (cutBack A n i j k)))
+turn A n i j k g q = cond (eqb k i) (going g q) (cond (eqb k j) (going g q) (andThen (cut A n i j k g q) (cutBack A n i j k)))
 
 -- each k in rising order: f more, from k on
 unfoldable pub turns : Calculus → ℕ → ℕ → ℕ → ℕ → ℕ → List ℕ → List ℕ → Out

@@ -7,6 +7,7 @@ use lib.Dec.{eqb}
 use lib.Bits.{bitOr}
 use Rattle.text.specs.Text.{bytes, split, same}
 
+-- how a word is written, and its set
 pub record Word : Type 0 where
   pub name : List ℕ
   pub means : ℕ

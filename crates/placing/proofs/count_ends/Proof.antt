@@ -5,13 +5,14 @@ use lib.ListN.{length, length-set}
 use Rattle.relation.specs.Filling.{Filled}
 use Rattle.relation.proofs.FillLaws.{filled-more}
 use Rattle.placing.specs.Settling.{endsBefore}
+use Rattle.placing.specs.Steps.{mostEnds}
 use borrow.Author.Needs.{needs}
 use native.Mathlib.Omega.{arith}
 use Rattle.placing.proofs.count_ends.Statement.{statement}
 use Rattle.placing.proofs.count_ends.Tie as tie
 
 abbrev Inv-loop : tie.InvT-loop
-Inv-loop g n counts₀ p₀ counts p = (length counts ≡ 64) × (p ≤ 2 * n) × Filled (endsBefore n g) counts p
+Inv-loop g n counts₀ p₀ counts p = (length counts ≡ mostEnds) × (p ≤ 2 * n) × Filled (endsBefore n g) counts p
 
 abbrev μ-loop : tie.MeasureT-loop
 μ-loop g n counts₀ p₀ counts p = 2 * n - p

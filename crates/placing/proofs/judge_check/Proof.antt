@@ -1,13 +1,11 @@
 -- The cells and the order are looked at only where the lengths are right.
-use mathlib.Core.Path.{sym, _∙_}
+use mathlib.Core.Path.{sym, ap, _∙_}
 use lib.ListN.{length}
-use Rattle.relation.specs.Meaning.{pickℕ}
-use Rattle.grid.specs.Accepted.{cellRefusal, firstOf}
-use Rattle.grid.proofs.AcceptedLaws.{first-next}
-use Rattle.placing.specs.Placing.{at}
-use Rattle.placing.specs.Checking.{lengthRefusal, someLate}
-use Rattle.grid.proofs.JudgedLaws.{judged-accepted, judged-refused}
-use Rattle.placing.proofs.CheckLaws.{lengths, check-is}
+use Rattle.refusal.specs.Numbers.{numberOf}
+use Rattle.refusal.proofs.NumberLaws.{number-pos}
+use Rattle.grid.specs.Accepted.{judgedNumber}
+use Rattle.grid.proofs.JudgedLaws.{judged-accepted}
+use Rattle.placing.proofs.CheckLaws.{lengths, check-length, check-rest}
 use native.Mathlib.Omega.{arith}
 use borrow.Author.Needs.{needs}
 use Rattle.placing.proofs.judge_check.Statement.{statement}
@@ -31,14 +29,14 @@ judge-sized-requires c κs =
 returns : tie.Need-returns
 returns c =
     let A = c .before .before .before .before .before .args in
-    judged-refused (lengthRefusal (A .n) (A .g .now) (length (A .placing .now))) (firstOf (cellRefusal (A .n) (A .g .now)) (pickℕ (someLate (A .n) (at (A .placing .now))) 7 0)) _ (c .before .lengths .given .0 .0) (c .before .before .before .judge-lengths .ensures) (c .before .lengths .given .1) ∙ sym (check-is (A .n) (A .g .now) (A .placing .now))
+    let r = c .before .lengths .given in
+    sym (check-length (A .n) (A .g .now) (A .placing .now) (numberOf (r .0 .0)) (sym (c .before .before .before .judge-lengths .ensures) ∙ ap judgedNumber (r .1)) (number-pos (r .0 .0)))
 
 returns-2 : tie.Need-returns-2
 returns-2 c =
     let A = c .before .before .before .before .before .args in
     c .judge-sized .ensures
-    ∙ sym (first-next (lengthRefusal (A .n) (A .g .now) (length (A .placing .now))) (firstOf (cellRefusal (A .n) (A .g .now)) (pickℕ (someLate (A .n) (at (A .placing .now))) 7 0)) (judged-accepted _ _ (c .before .before .before .judge-lengths .ensures) (c .before .enum-told .given .1)))
-    ∙ sym (check-is (A .n) (A .g .now) (A .placing .now))
+    ∙ sym (check-rest (A .n) (A .g .now) (A .placing .now) (judged-accepted _ _ (c .before .before .before .judge-lengths .ensures) (c .before .enum-told .given .1)))
 
 pub judge-check-spec : {M : Type 1} → statement M
 judge-check-spec =

@@ -1,12 +1,11 @@
 -- The number of numbers is looked at only where the size is right.
-use mathlib.Core.Path.{sym, _∙_}
-use Prim.Native.Nat.{_*_}
-use lib.Dec.{eqb}
-use Rattle.relation.specs.Meaning.{pickℕ}
-use Rattle.grid.specs.Accepted.{sizeRefusal}
+use mathlib.Core.Path.{sym, ap, _∙_}
+use Rattle.refusal.specs.Numbers.{numberOf}
+use Rattle.refusal.proofs.NumberLaws.{number-pos}
+use Rattle.grid.specs.Accepted.{judgedNumber}
 use Rattle.grid.proofs.AcceptedLaws.{sized}
-use Rattle.grid.proofs.JudgedLaws.{judged-accepted, judged-refused}
-use Rattle.placing.proofs.CheckLaws.{length-is, length-wrong, length-right}
+use Rattle.grid.proofs.JudgedLaws.{judged-accepted}
+use Rattle.placing.proofs.CheckLaws.{length-size, length-wrong, length-right}
 use native.Mathlib.Omega.{arith}
 use borrow.Author.Needs.{needs}
 use Rattle.placing.proofs.judge_lengths.Statement.{statement}
@@ -30,7 +29,8 @@ mul-if1 c =
 returns : tie.Need-returns
 returns c =
     let A = c .before .before .before .before .before .args in
-    judged-refused (sizeRefusal (A .n) (A .g .now)) (pickℕ (eqb (A .numbers) (2 * A .n)) 0 6) _ (c .before .size .given .0 .0) (c .before .before .before .judge-size .ensures) (c .before .size .given .1) ∙ sym (length-is (A .n) (A .g .now) (A .numbers))
+    let r = c .before .size .given in
+    sym (length-size (A .n) (A .g .now) (A .numbers) (numberOf (r .0 .0)) (sym (c .before .before .before .judge-size .ensures) ∙ ap judgedNumber (r .1)) (number-pos (r .0 .0)))
 
 returns-2 : tie.Need-returns-2
 returns-2 c =

@@ -1,12 +1,10 @@
 -- The order of start and end is looked at only where the cells are right.
 use mathlib.Core.Path.{sym, ap, _∙_}
-use mathlib.Core.Bool.{Bool}
-use Rattle.relation.specs.Meaning.{pickℕ}
-use Rattle.grid.specs.Accepted.{cellRefusal}
-use Rattle.grid.proofs.AcceptedLaws.{first-next}
-use Rattle.placing.specs.Placing.{at}
-use Rattle.placing.specs.Checking.{someLate}
-use Rattle.grid.proofs.JudgedLaws.{judged-accepted, judged-refused}
+use Rattle.refusal.specs.Numbers.{numberOf}
+use Rattle.refusal.proofs.NumberLaws.{number-pos}
+use Rattle.grid.specs.Accepted.{judgedNumber}
+use Rattle.grid.proofs.JudgedLaws.{judged-accepted}
+use Rattle.placing.proofs.CheckLaws.{rest-cell, rest-late, rest-none}
 use borrow.Author.Needs.{needs}
 use Rattle.placing.proofs.judge_sized.Statement.{statement}
 use Rattle.placing.proofs.judge_sized.Tie as tie
@@ -26,19 +24,20 @@ some-late-requires c κs = search needs
 returns : tie.Need-returns
 returns c =
     let A = c .before .before .before .before .before .args in
-    judged-refused (cellRefusal (A .n) (A .g .now)) (pickℕ (someLate (A .n) (at (A .placing .now))) 7 0) _ (c .before .cells .given .0 .0) (c .before .before .before .judge-cells .ensures) (c .before .cells .given .1)
+    let r = c .before .cells .given in
+    sym (rest-cell (A .n) (A .g .now) (A .placing .now) (numberOf (r .0 .0)) (sym (c .before .before .before .judge-cells .ensures) ∙ ap judgedNumber (r .1)) (number-pos (r .0 .0)))
 
 returns-2 : tie.Need-returns-2
 returns-2 c =
     let A = c .before .before .before .before .before .before .args in
-    sym (first-next (cellRefusal (A .n) (A .g .now)) (pickℕ (someLate (A .n) (at (A .placing .now))) 7 0) (judged-accepted _ _ (c .before .before .before .before .judge-cells .ensures) (c .before .before .enum-told .given .1))
-    ∙ ap (λ (x : Bool). pickℕ x 7 0) (sym (c .before .some-late .ensures) ∙ c .if1 .taken))
+    sym (rest-late (A .n) (A .g .now) (A .placing .now) (judged-accepted _ _ (c .before .before .before .before .judge-cells .ensures) (c .before .before .enum-told .given .1))
+    (sym (c .before .some-late .ensures) ∙ c .if1 .taken))
 
 returns-3 : tie.Need-returns-3
 returns-3 c =
     let A = c .before .before .before .before .before .before .args in
-    sym (first-next (cellRefusal (A .n) (A .g .now)) (pickℕ (someLate (A .n) (at (A .placing .now))) 7 0) (judged-accepted _ _ (c .before .before .before .before .judge-cells .ensures) (c .before .before .enum-told .given .1))
-    ∙ ap (λ (x : Bool). pickℕ x 7 0) (sym (c .before .some-late .ensures) ∙ c .if1 .left))
+    sym (rest-none (A .n) (A .g .now) (A .placing .now) (judged-accepted _ _ (c .before .before .before .before .judge-cells .ensures) (c .before .before .enum-told .given .1))
+    (sym (c .before .some-late .ensures) ∙ c .if1 .left))
 
 pub judge-sized-spec : {M : Type 1} → statement M
 judge-sized-spec =

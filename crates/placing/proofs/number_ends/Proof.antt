@@ -6,6 +6,7 @@ use lib.IntN.{pos}
 use mir.Syntax.{w32}
 use mir.Facts.{toZ-pos}
 use Rattle.placing.specs.Settling.{gaplessEnd}
+use Rattle.placing.specs.Steps.{mostEnds}
 use Rattle.placing.proofs.StepLaws.{looked-up}
 use Rattle.placing.proofs.EntryLaws.{Holds, holds-more}
 use borrow.Author.Needs.{needs}
@@ -14,7 +15,7 @@ use Rattle.placing.proofs.number_ends.Statement.{statement}
 use Rattle.placing.proofs.number_ends.Tie as tie
 
 abbrev Inv-loop : tie.InvT-loop
-Inv-loop g n counts belows numbers₀ p₀ numbers p = (length numbers ≡ 64) × (p ≤ 2 * n) × Holds (gaplessEnd n g) numbers p
+Inv-loop g n counts belows numbers₀ p₀ numbers p = (length numbers ≡ mostEnds) × (p ≤ 2 * n) × Holds (gaplessEnd n g) numbers p
 
 abbrev μ-loop : tie.MeasureT-loop
 μ-loop g n counts belows numbers₀ p₀ numbers p = 2 * n - p

@@ -28,9 +28,12 @@ some-missed-requires c κs = search needs
 
 returns-2 : tie.Need-returns-2
 returns-2 c =
-    let A = c .before .before .before .before .before .before .before .before .args in
-    let N = c .before .before .before .before .before .before .number-ends in
-    missed-unsettled (A .n) (A .g .now) (N .result) (N .ensures) (A .room .now) (sym (c .before .before .before .before .some-late .ensures) ∙ c .before .before .before .if1 .left) (sym (c .before .some-missed .ensures) ∙ c .if2 .taken)
+    let M = c .before in
+    let L = M .before .before .before in
+    let N = L .before .before in
+    let Z = N .before .before in
+    missed-unsettled (Z .args .n) (Z .args .g .now) (N .number-ends .result) (N .number-ends .ensures) (Z .args .room .now)
+    (sym (L .some-late .ensures) ∙ M .before .before .if1 .left) (sym (M .some-missed .ensures) ∙ c .if2 .taken)
 
 slice-aggregate-copy : tie.Need-slice-aggregate-copy
 slice-aggregate-copy c = search needs
@@ -43,9 +46,13 @@ same-length c = search needs
 
 returns-3 : tie.Need-returns-3
 returns-3 c =
-    let A = c .before .before .before .before .before .before .before .before .before .before .before .before .args in
-    let N = c .before .before .before .before .before .before .before .before .before .before .number-ends in
-    copied-settled (A .n) (A .g .now) (N .result) (N .ensures) (A .room .now) _ (c .before .before .before .before .before .before .before .before .before .before .before .before .pre .2) (sym (c .before .before .before .before .before .before .before .before .some-late .ensures) ∙ c .before .before .before .before .before .before .before .if1 .left) (sym (c .before .before .before .before .before .some-missed .ensures) ∙ c .before .before .before .before .if2 .left) (c .before .copy .ensures)
+    let M = c .before .before .before .before .before in
+    let L = M .before .before .before in
+    let N = L .before .before in
+    let Z = N .before .before in
+    copied-settled (Z .args .n) (Z .args .g .now) (N .number-ends .result) (N .number-ends .ensures) (Z .args .room .now) _ (Z .pre .2)
+    (sym (L .some-late .ensures) ∙ M .before .before .if1 .left) (sym (M .some-missed .ensures) ∙ c .before .before .before .before .if2 .left)
+    (c .before .copy .ensures)
 
 pub settle-spec : {M : Type 1} → statement M
 settle-spec =

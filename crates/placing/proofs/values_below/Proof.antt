@@ -7,6 +7,7 @@ use lib.ListN.{length, getD, replicate, length-set}
 use Rattle.relation.specs.Filling.{Filled}
 use Rattle.relation.proofs.FillLaws.{filled-more}
 use Rattle.placing.specs.Settling.{valuesBelow}
+use Rattle.placing.specs.Steps.{mostEnds}
 use Rattle.placing.proofs.GaplessLaws.{values-none, values-le, values-step}
 use borrow.Author.Needs.{needs}
 use native.Mathlib.Omega.{arith}
@@ -17,15 +18,15 @@ first : (f : ℕ → ℕ) (l : List ℕ) → getD l 0 0 ≡ f 0 → Filled f l 1
 first f l e k h = let z : k ≡ 0 = omega arith in ap (λ (j : ℕ). getD l j 0) z ∙ e ∙ ap f (sym z)
 
 abbrev Inv-loop : tie.InvT-loop
-Inv-loop counts m belows₀ v₀ belows v = (length belows ≡ 65) × (v ≤ 64) × Filled (valuesBelow (λ p. getD counts p 0) m) belows (v + 1)
+Inv-loop counts m belows₀ v₀ belows v = (length belows ≡ mostEnds + 1) × (v ≤ mostEnds) × Filled (valuesBelow (λ p. getD counts p 0) m) belows (v + 1)
 
 abbrev μ-loop : tie.MeasureT-loop
-μ-loop counts m belows₀ v₀ belows v = 64 - v
+μ-loop counts m belows₀ v₀ belows v = mostEnds - v
 
 loop-holds : tie.Need-loop-holds Inv-loop μ-loop
 loop-holds c =
     let A = c .before .args in
-    (refl, search needs, first (valuesBelow (λ p. getD (A .counts .now) p 0) (A .m)) (replicate 65 0) (sym (values-none (λ p. getD (A .counts .now) p 0) (A .m))))
+    (refl, search needs, first (valuesBelow (λ p. getD (A .counts .now) p 0) (A .m)) (replicate (mostEnds + 1) 0) (sym (values-none (λ p. getD (A .counts .now) p 0) (A .m))))
 
 mul-here : tie.Need-mul-here Inv-loop μ-loop
 mul-here c = search needs

@@ -6,7 +6,7 @@ use lib.ListN.{length, drop, length-drop}
 use Rattle.text.specs.Text.{split}
 use Rattle.text.proofs.PartLaws.{split-some}
 use Rattle.sheet.specs.Sheet.{lf}
-use Rattle.sheet.specs.Steps.{partsFrom}
+use Rattle.sheet.specs.Steps.{partsFrom, Ends as Next}
 use Rattle.reader.specs.declared.NextLine.{NextLine}
 use Rattle.reader.specs.declared.NextLine.the-variants.{Ends, Unended, Nothing}
 use Rattle.reader.proofs.LineLaws.{line-next, line-last}
@@ -25,6 +25,13 @@ L F = F .before
 
 abbrev S : tie.After-line-from Inv-loop μ-loop → tie.Start Inv-loop μ-loop
 S F = L F .before .before
+
+-- a line was found, and the next one begins after its LF
+abbrev Found : tie.After-e Inv-loop μ-loop → tie.After-line-from Inv-loop μ-loop
+Found E = E .before .before
+
+ended : (E : tie.After-e Inv-loop μ-loop) → Next (S (Found E) .args .sheet .now) (L (Found E) .loop .at) (E .e .given .0 .0 + 1)
+ended E = line-next _ _ (E .e .given .0 .0) (sym (Found E .line-from .ensures) ∙ E .e .given .1)
 
 -- the reader stands where no line is left
 stops : (F : tie.After-line-from Inv-loop μ-loop) (x : NextLine) → F .line-from .result ≡ x → ((e : ℕ) → x ≡ Ends e → ⊥)
@@ -49,7 +56,7 @@ enum-known-e : tie.Need-enum-known-e Inv-loop μ-loop
 enum-known-e c = search needs
 
 add-at : tie.Need-add-at Inv-loop μ-loop
-add-at c = let E = c .before .e .given in let n = line-next (S (c .before .before .before) .args .sheet .now) (L (c .before .before .before) .loop .at) (E .0 .0) (sym (c .before .before .before .line-from .ensures) ∙ E .1) in omega (arith, n .high)
+add-at c = omega (arith, ended (c .before) .high)
 
 enum-told : tie.Need-enum-told Inv-loop μ-loop
 enum-told c = search needs
@@ -64,16 +71,17 @@ returns-2 : tie.Need-returns-2 Inv-loop μ-loop
 returns-2 c = let F = c .before .before in omega (arith, stops F Nothing (c .enum-told2 .given .1) nothing)
 
 add-count : tie.Need-add-count Inv-loop μ-loop
-add-count c = let E = c .before .e .given in let n = line-next (S (c .before .before .before) .args .sheet .now) (L (c .before .before .before) .loop .at) (E .0 .0) (sym (c .before .before .before .line-from .ensures) ∙ E .1) in omega (arith, L (c .before .before .before) .loop .inv .1, n .high, n .low)
+add-count c = let n = ended (c .before) in omega (arith, L (Found (c .before)) .loop .inv .1, n .high, n .low)
 
 loop-less : tie.Need-loop-less Inv-loop μ-loop
-loop-less c = let E = c .before .e .given in let n = line-next (S (c .before .before .before) .args .sheet .now) (L (c .before .before .before) .loop .at) (E .0 .0) (sym (c .before .before .before .line-from .ensures) ∙ E .1) in omega (arith, n .high, n .low)
+loop-less c = let n = ended (c .before) in omega (arith, n .high, n .low)
 
 loop-again : tie.Need-loop-again Inv-loop μ-loop
-loop-again c = let E = c .before .e .given in let n = line-next (S (c .before .before .before) .args .sheet .now) (L (c .before .before .before) .loop .at) (E .0 .0) (sym (c .before .before .before .line-from .ensures) ∙ E .1) in
-    let ps = partsFrom (S (c .before .before .before) .args .sheet .now) (L (c .before .before .before) .loop .at) in
-    let m = ap length (n .rest) in
-    (n .high, omega (arith, L (c .before .before .before) .loop .inv .1, n .low), omega (arith, L (c .before .before .before) .loop .inv .2, m, length-drop 1 ps, split-some lf (drop (L (c .before .before .before) .loop .at) (S (c .before .before .before) .args .sheet .now))))
+loop-again c =
+    let n = ended (c .before) in
+    let s = S (Found (c .before)) .args .sheet .now in
+    let A = L (Found (c .before)) in
+    (n .high, omega (arith, A .loop .inv .1, n .low), omega (arith, A .loop .inv .2, ap length (n .rest), length-drop 1 (partsFrom s (A .loop .at)), split-some lf (drop (A .loop .at) s)))
 
 pub count-lines-spec : {M : Type 1} → statement M
 count-lines-spec =

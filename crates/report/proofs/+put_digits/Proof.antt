@@ -1,13 +1,12 @@
 -- The digits before the last are those of a smaller number.
 use mathlib.Core.Path.{_∙_, ap}
 use mathlib.Core.List.{[], _∷_}
-use Prim.Native.Nat.{_+_, _/_, _%_, _≤_}
+use Prim.Native.Nat.{ℕ, _+_, _/_, _%_, _≤_, _<_}
 use native.Mathlib.Omega.{arith}
 use lib.ListN.{length, length-append}
 use Rattle.report.specs.Text.{decimal}
 use Rattle.report.proofs.AddsLaws.{adds-then}
 use Rattle.report.proofs.DecimalLaws.{decimal-one, decimal-more}
-use Prim.Native.Nat.{ℕ, _<_}
 use borrow.Fn.Kinds.{In}
 use borrow.Fn.PlainCycle.{Measures, is, falls, and}
 use Rattle.report.proofs.put_digits.Reads as put-digits

@@ -54,11 +54,11 @@ natural-requires-2 c κs = search needs
 
 put-event-requires : tie.Need-put-event-requires Inv-loop μ-loop
 put-event-requires c κs =
-    let Z = c .before .before .before .before .before .before .before .before .before .before .before .before in
-    let L = c .before .before .before .before .before .before .before in
+    let M = c .before .before .before .before .before in
+    let L = M .before .before in
+    let Z = L .before .before .before .before .before in
     let names = names-length (Z .args .s .now) (Z .args .places .now) (Z .args .lengths .now) (Z .args .n) in
-    let h = c .before .before .before .before .before .before .loop-test .taken in
-    (omega (arith, ap length (c .before .before .before .before .before .name-at .ensures .bytes), Z .pre .0 .short (L .loop .i) (rw names h)), omega arith)
+    (omega (arith, ap length (M .name-at .ensures .bytes), Z .pre .0 .short (L .loop .i) (rw names (M .before .loop-test .taken))), omega arith)
 
 add-i : tie.Need-add-i Inv-loop μ-loop
 add-i c = search needs
@@ -68,8 +68,13 @@ loop-less c = search needs
 
 loop-again : tie.Need-loop-again Inv-loop μ-loop
 loop-again c =
-    let Z = c .before .before .before .before .before .before .before .before .before .before .before .before .before .before .before in
-    let L = c .before .before .before .before .before .before .before .before .before .before in
+    let E₂ = c .before .before .before .before in
+    let A₂ = E₂ .before in
+    let E₁ = A₂ .before in
+    let A₁ = E₁ .before in
+    let M = A₁ .before in
+    let L = M .before .before in
+    let Z = L .before .before .before .before .before in
     let E = c .before .before .put-event .ensures in
     let xs = Z .args .numbers .now in
     let i = L .loop .i in (
@@ -77,9 +82,9 @@ loop-again c =
       omega (arith, E .within, E .adds .long),
       E .adds .long ∙ L .loop .inv .2,
       adds-line (namesAt (Z .args .s .now) (Z .args .places .now) (Z .args .lengths .now) (Z .args .n)) xs i _ _ _
-          (c .before .before .before .before .before .before .before .before .name-at .ensures .bytes)
-          (natural-is (at xs (2 * i)) (c .before .before .before .before .before .before .before .natural-arg .given) _ (c .before .before .before .before .before .before .natural .ensures))
-          (natural-is (at xs (2 * i + 1)) (c .before .before .before .before .before .natural-arg2 .given) _ (c .before .before .before .before .natural2 .ensures))
+          (M .name-at .ensures .bytes)
+          (natural-is (at xs (2 * i)) (A₁ .natural-arg .given) _ (E₁ .natural .ensures))
+          (natural-is (at xs (2 * i + 1)) (A₂ .natural-arg2 .given) _ (E₂ .natural2 .ensures))
           (L .loop .inv .3) (E .adds),
     )
 

@@ -68,10 +68,12 @@ same-length-2 c = search needs
 returns : tie.Need-returns
 unfolding placedLine
 returns c =
-    let F = c .before .before .before .before .before .before .before .before .before .before .before .before .before .before .before in
+    let W = c .before .before .before .before .before .before .before .before in
+    let A = W .before .before .before .before in
+    let F = A .before .before .before in
     let names = names-length (S F .args .s .now) (S F .args .places .now) (S F .args .lengths .now) (S F .args .n) in
-    rw (placed-all _ _ (S F .args .events) _ _ _ _ (c .before .before .before .before .before .if1 .taken) names (room-is _ _ _ _ _ _ (S F .pre .1) (S F .pre .2) (F .find-placing .ensures)) (said F _ (c .before .before .before .before .before .before .before .before .before .before .before .before .answer .given .1)))
-    (adds-then (c .before .before .before .before .before .before .before .before .put-said .ensures .adds) (c .before .before .put-events .ensures))
+    rw (placed-all _ _ (S F .args .events) _ _ _ _ (c .before .before .before .before .before .if1 .taken) names (room-is _ _ _ _ _ _ (S F .pre .1) (S F .pre .2) (F .find-placing .ensures)) (said F _ (A .answer .given .1)))
+    (adds-then (W .put-said .ensures .adds) (c .before .before .put-events .ensures))
 
 same-length-3 : tie.Need-same-length-3
 same-length-3 c = search needs
@@ -82,8 +84,10 @@ same-length-4 c = search needs
 returns-2 : tie.Need-returns-2
 unfolding placedLine
 returns-2 c =
-    let F = c .before .before .before .before .before .before .before .before .before .before in
-    rw (placed-first _ _ (S F .args .events) _ (c .if1 .left) (said F _ (c .before .before .before .before .before .before .before .answer .given .1))) (c .before .before .before .put-said .ensures .adds)
+    let W = c .before .before .before in
+    let A = W .before .before .before .before in
+    let F = A .before .before .before in
+    rw (placed-first _ _ (S F .args .events) _ (c .if1 .left) (said F _ (A .answer .given .1))) (W .put-said .ensures .adds)
 
 same-length-5 : tie.Need-same-length-5
 same-length-5 c = search needs
@@ -94,8 +98,10 @@ same-length-6 c = search needs
 returns-3 : tie.Need-returns-3
 unfolding noneLine
 returns-3 c =
-    let F = c .before .before .before .before .before .before .before .before .before in
-    rw (none-text _ _ (S F .args .events) _ (said F _ (c .before .before .before .before .before .before .answer2 .given .1))) (c .before .before .put-said2 .ensures .adds)
+    let W = c .before .before in
+    let A = W .before .before .before .before in
+    let F = A .before .before .before in
+    rw (none-text _ _ (S F .args .events) _ (said F _ (A .answer2 .given .1))) (W .put-said2 .ensures .adds)
 
 same-length-7 : tie.Need-same-length-7
 same-length-7 c = search needs
@@ -106,8 +112,10 @@ same-length-8 c = search needs
 returns-4 : tie.Need-returns-4
 unfolding gaveUpLine
 returns-4 c =
-    let F = c .before .before .before .before .before .before .before .before .before in
-    rw (gave-up-text _ _ (S F .args .events) _ (said F _ (c .before .before .before .before .before .before .answer3 .given .1))) (c .before .before .put-said3 .ensures .adds)
+    let W = c .before .before in
+    let A = W .before .before .before .before in
+    let F = A .before .before .before in
+    rw (gave-up-text _ _ (S F .args .events) _ (said F _ (A .answer3 .given .1))) (W .put-said3 .ensures .adds)
 
 same-length-9 : tie.Need-same-length-9
 same-length-9 c = search needs
@@ -117,8 +125,9 @@ same-length-10 c = search needs
 
 returns-5 : tie.Need-returns-5
 returns-5 c =
-    let F = c .before .before .before .before .before .before .before .before in
-    absurd (no-refusal (searchOf (S F .args .n) (S F .args .allowance) (S F .args .g .now)) _ (said F _ (c .before .before .before .before .before .answer4 .given .1)))
+    let A = c .before .before .before .before .before in
+    let F = A .before .before .before in
+    absurd (no-refusal (searchOf (S F .args .n) (S F .args .allowance) (S F .args .g .now)) _ (said F _ (A .answer4 .given .1)))
 
 pub put-found-spec : {M : Type 1} → statement M
 put-found-spec =

@@ -3,12 +3,12 @@ use mathlib.Core.Path.{_≡_, subst}
 use native.Mathlib.Omega.{arith}
 use native.Mathlib.Nat.{mul-le-mul}
 use Rattle.sheet.specs.Sheet.{sheet}
-use Rattle.sheet.specs.Steps.{SheetRead, SheetSays, tableNames, tableCounts}
+use Rattle.sheet.specs.Steps.{SheetRead, SheetSays}
 use Rattle.sheet.specs.declared.SheetAnswer.{SheetAnswer}
 use Rattle.sheet.specs.declared.SheetAnswer.the-variants.{Events, Refused}
-use Rattle.sheet.proofs.ContentsLaws.{names-length}
+use Rattle.sheet.proofs.ContentsLaws.{names-length, table-keeps}
+use Rattle.sheet.proofs.NameLaws.{names-short}
 use Rattle.sheet.proofs.SheetRight.{into-accepted}
-use Rattle.report.proofs.NameLaws.{names-short}
 use Rattle.report.proofs.FoundLaws.{text-refused, text-accepted}
 use borrow.Author.Needs.{needs}
 use Rattle.report.proofs.put_report.Statement.{statement}
@@ -57,15 +57,12 @@ slice-aggregate-put-searched-4 c = search needs
 put-searched-requires : tie.Need-put-searched-requires
 put-searched-requires c κs =
     let A = c .before .before .before .before .before .before .before .before in
-    let t = read A .table in
     let few = read A .few in
-    let s = S (F A) .args .s .now in
-    let n = A .answer2 .given .0 .0 in
     let w = mul-le-mul few few in (
       record {
         few = few;
-        keeps = record { places = omega (arith, few, t .at-long); lengths = omega (arith, few, t .len-long); within = t .within };
-        short = names-short (tableNames s n (F A .read-into .result .table)) (tableCounts n (F A .read-into .result .table)) (read A .statements) s (read A .says);
+        keeps = table-keeps _ _ _ few (read A .table);
+        short = names-short (S (F A) .args .s .now) _ _ _ (read A .says);
       },
       omega (arith, w, F A .read-into .kept .1 .0),
       into-accepted _ _ _ _ (read A),

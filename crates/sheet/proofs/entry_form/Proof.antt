@@ -1,9 +1,12 @@
 -- Two fields, of which the first is a name and the second a number up to 999: each test as in the definition.
-use mathlib.Core.Path.{sym, _∙_, ap, subst}
+use mathlib.Core.Path.{_≡_, sym, _∙_, ap, subst}
+use mathlib.Core.Bool.{true}
 use Prim.Native.Nat.{_+_}
 use native.Mathlib.Omega.{arith}
+use lib.ListN.{take, drop}
 use lib.Seq.{length-take-le}
 use borrow.Author.Tests.{not-true, not-false}
+use Rattle.text.specs.Names.{isName}
 use Rattle.text.specs.Steps.{TwoParts, numberUpTo}
 use Rattle.text.specs.declared.Two.the-variants.{At}
 use Rattle.text.proofs.PartLaws.{take-rest}
@@ -20,6 +23,16 @@ S K = K .before .before .before .before
 -- the line has two fields, and the first has k bytes
 two : (K : tie.After-k) → TwoParts space (S K .args .l .now) (At (K .k .given .0 .0))
 two K = subst (TwoParts space (S K .args .l .now)) (K .k .given .1) (K .before .before .two-parts .ensures)
+
+-- the first field is a name, and the second was read as a number
+abbrev K : tie.After-number-up-to → tie.After-k
+K N = N .before .before .before .before .before .before
+
+named : (N : tie.After-number-up-to) → isName (take (K N .k .given .0 .0) (S (K N) .args .l .now)) ≡ true
+named N = sym (N .before .before .before .is-name .ensures) ∙ not-false _ (N .before .before .if1 .left)
+
+number : (N : tie.After-number-up-to) → numberUpTo mostStatements (drop (K N .k .given .0 .0 + 1) (S (K N) .args .l .now)) ≡ N .number-up-to .result
+number N = ap (numberUpTo mostStatements) (sym (take-rest (S (K N) .args .l .now) (K N .k .given .0 .0 + 1))) ∙ sym (N .number-up-to .ensures)
 
 two-parts-requires : tie.Need-two-parts-requires
 two-parts-requires c κs = search needs
@@ -68,20 +81,21 @@ returns-2 c = let P = c .before .before in entry-fields (P .before .before .args
 
 returns-3 : tie.Need-returns-3
 returns-3 c =
-    let K = c .before .before .before .before .before .before .before .before .before in
-    let n = is-number _ _ (c .before .v .given .0 .0) (ap (numberUpTo mostStatements) (sym (take-rest (S K .args .l .now) (K .k .given .0 .0 + 1))) ∙ sym (c .before .before .before .number-up-to .ensures) ∙ c .before .v .given .1) in
-    entry-is (S K .args .l .now) (K .k .given .0 .0) (two K .0) (two K .1) (c .before .v .given .0 .0) (sym (c .before .before .before .before .before .before .is-name .ensures) ∙ not-false _ (c .before .before .before .before .before .if1 .left)) (n .0) (n .1) (n .2)
+    let N = c .before .before .before in
+    let v = c .before .v .given in
+    let n = is-number _ _ (v .0 .0) (number N ∙ v .1) in
+    entry-is (S (K N) .args .l .now) (K N .k .given .0 .0) (two (K N) .0) (two (K N) .1) (v .0 .0) (named N) (n .0) (n .1) (n .2)
 
 returns-4 : tie.Need-returns-4
 returns-4 c =
-    let K = c .before .before .before .before .before .before .before .before in
-    let n = above-number _ _ (ap (numberUpTo mostStatements) (sym (take-rest (S K .args .l .now) (K .k .given .0 .0 + 1))) ∙ sym (c .before .before .number-up-to .ensures) ∙ c .enum-told2 .given .1) in
-    entry-many (S K .args .l .now) (K .k .given .0 .0) (two K .0) (two K .1) (sym (c .before .before .before .before .before .is-name .ensures) ∙ not-false _ (c .before .before .before .before .if1 .left)) (n .0) (n .1)
+    let N = c .before .before in
+    let n = above-number _ _ (number N ∙ c .enum-told2 .given .1) in
+    entry-many (S (K N) .args .l .now) (K N .k .given .0 .0) (two (K N) .0) (two (K N) .1) (named N) (n .0) (n .1)
 
 returns-5 : tie.Need-returns-5
 returns-5 c =
-    let K = c .before .before .before .before .before .before .before .before in
-    entry-number (S K .args .l .now) (K .k .given .0 .0) (two K .0) (two K .1) (sym (c .before .before .before .before .before .is-name .ensures) ∙ not-false _ (c .before .before .before .before .if1 .left)) (no-number _ _ (ap (numberUpTo mostStatements) (sym (take-rest (S K .args .l .now) (K .k .given .0 .0 + 1))) ∙ sym (c .before .before .number-up-to .ensures) ∙ c .enum-told3 .given .1))
+    let N = c .before .before in
+    entry-number (S (K N) .args .l .now) (K N .k .given .0 .0) (two (K N) .0) (two (K N) .1) (named N) (no-number _ _ (number N ∙ c .enum-told3 .given .1))
 
 pub entry-form-spec : {M : Type 1} → statement M
 entry-form-spec =

@@ -4,6 +4,7 @@ use native.Mathlib.Omega.{arith}
 use Rattle.sheet.specs.Steps.{ContentsRead, ContentsSay}
 use Rattle.sheet.specs.declared.Place.{Place}
 use Rattle.sheet.specs.declared.Place.the-variants.{At, Refused}
+use Rattle.sheet.proofs.ContentsLaws.{table-keeps}
 use Rattle.sheet.proofs.SheetLaws.{sheet-says}
 use borrow.Author.Needs.{needs}
 use Rattle.sheet.proofs.lines_into.Statement.{statement}
@@ -21,6 +22,10 @@ C P = P .before .before .before
 
 listed : (P : tie.After-place2) → ContentsRead (S (C P) .args .s .now) (S (C P) .args .n) (S (C P) .args .start) (C P .contents-of .result .table) (P .place2 .given .0 .0)
 listed P = says (C P) (At (P .place2 .given .0 .0) (P .place2 .given .0 .1 .0)) (P .place2 .given .1)
+
+-- and the grid is filled
+abbrev P : tie.After-fill-start → tie.After-place2
+P G = G .before .before .before .before .before .before
 
 contents-of-requires : tie.Need-contents-of-requires
 contents-of-requires c κs = search needs
@@ -45,11 +50,11 @@ slice-aggregate-bodies-of-3 c = search needs
 
 bodies-of-requires : tie.Need-bodies-of-requires
 bodies-of-requires c κs =
-    let P = c .before .before .before .before .before .before .before .before .before .before .before .before in
-    let Z = S (C P) in
-    let t = listed P .table in (
-      record { places = omega (arith, Z .pre .0, t .at-long); lengths = omega (arith, Z .pre .0, t .len-long); within = t .within },
-      (omega (arith, Z .pre .0, t .count-long), Z .pre .0, omega (arith, Z .pre .2, c .before .before .before .before .before .before .fill-start .kept .0), listed P .inside),
+    let G = c .before .before .before .before .before .before in
+    let Z = S (C (P G)) in
+    let t = listed (P G) .table in (
+      table-keeps _ _ _ (Z .pre .0) t,
+      (omega (arith, Z .pre .0, t .count-long), Z .pre .0, omega (arith, Z .pre .2, G .fill-start .kept .0), listed (P G) .inside),
     )
 
 returns : tie.Need-returns
@@ -60,10 +65,11 @@ same-length c = search needs
 
 returns-2 : tie.Need-returns-2
 returns-2 c =
-    let P = c .before .before .before .before .before .before .before .before .before .before .before .before .before .before .before in
-    let Z = S (C P) in
-    sheet-says (Z .args .s .now) (c .before .before .before .before .before .before .before .before .before .fill-start .last .0) (c .before .before .bodies-of .last .1 .1 .1 .1 .1 .1 .0) (Z .args .n) (Z .args .start) (C P .contents-of .result .table) (P .place2 .given .0 .0)
-    (Z .pre .0) (listed P) (c .before .before .before .before .before .before .before .before .before .fill-start .ensures) (c .before .before .bodies-of .result) (c .before .before .bodies-of .ensures)
+    let B = c .before .before in
+    let G = B .before .before .before .before .before .before .before in
+    let Z = S (C (P G)) in
+    sheet-says (Z .args .s .now) (G .fill-start .last .0) (B .bodies-of .last .1 .1 .1 .1 .1 .1 .0) (Z .args .n) (Z .args .start) (C (P G) .contents-of .result .table) (P G .place2 .given .0 .0)
+    (Z .pre .0) (listed (P G)) (G .fill-start .ensures) (B .bodies-of .result) (B .bodies-of .ensures)
 
 pub lines-into-spec : {M : Type 1} → statement M
 lines-into-spec =

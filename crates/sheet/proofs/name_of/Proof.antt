@@ -7,7 +7,7 @@ use Rattle.sheet.specs.Sheet.{sheet}
 use Rattle.sheet.specs.Steps.{SheetRead, SheetSays}
 use Rattle.sheet.specs.declared.SheetAnswer.{SheetAnswer}
 use Rattle.sheet.specs.declared.SheetAnswer.the-variants.{Events, Refused}
-use Rattle.sheet.proofs.ContentsLaws.{names-length}
+use Rattle.sheet.proofs.ContentsLaws.{names-length, table-keeps}
 use borrow.Author.Needs.{needs}
 use Rattle.sheet.proofs.name_of.Statement.{statement}
 use Rattle.sheet.proofs.name_of.Tie as tie
@@ -49,8 +49,7 @@ slice-aggregate-name-at-2 c = search needs
 name-at-requires : tie.Need-name-at-requires
 name-at-requires c κs =
     let A = c .before .before .before .before .before in
-    let t = read A .table in
-    record { places = omega (arith, read A .few, t .at-long); lengths = omega (arith, read A .few, t .len-long); within = t .within }
+    table-keeps _ _ _ (read A .few) (read A .table)
 
 returns : tie.Need-returns
 returns c =

@@ -1,14 +1,16 @@
 -- Two fields, of which the first is words and the second a name: each test as in the definition.
-use mathlib.Core.Path.{sym, _∙_, ap, subst}
-use Prim.Native.Nat.{_+_}
+use mathlib.Core.Path.{_≡_, sym, _∙_, ap, subst}
+use mathlib.Core.Bool.{true}
+use mathlib.Core.List.{List}
+use Prim.Native.Nat.{ℕ, _+_}
 use native.Mathlib.Omega.{arith}
-use lib.ListN.{take}
+use lib.ListN.{take, drop}
 use lib.Seq.{length-take-le}
 use Rattle.text.specs.Names.{isName}
 use Rattle.text.specs.Steps.{TwoParts}
 use Rattle.text.specs.declared.Two.the-variants.{At}
 use Rattle.text.proofs.PartLaws.{take-rest}
-use Rattle.words.specs.Words.{joined}
+use Rattle.words.specs.Words.{joined, areWords, union}
 use Rattle.words.proofs.WordLaws.{union-is, union-not}
 use Rattle.sheet.specs.Sheet.{space}
 use Rattle.sheet.proofs.BodyLaws.{statement-fields, statement-words, statement-name, statement-is}
@@ -22,6 +24,20 @@ S K = K .before .before .before .before
 -- the line has two fields, and the first has k bytes
 two : (K : tie.After-k) → TwoParts space (S K .args .l .now) (At (K .k .given .0 .0))
 two K = subst (TwoParts space (S K .args .l .now)) (K .k .given .1) (K .before .before .two-parts .ensures)
+
+-- the first field is words
+abbrev K : tie.After-u → tie.After-k
+K U = U .before .before .before .before .before
+
+abbrev Words : tie.After-u → List (List ℕ)
+Words U = joined (take (K U .k .given .0 .0) (S (K U) .args .l .now))
+
+said : (U : tie.After-u) → (areWords (Words U) ≡ true) × (union (Words U) ≡ U .u .given .0 .0)
+said U = union-is 0 (Words U) (U .u .given .0 .0) (sym (U .before .before .union-of .ensures) ∙ U .u .given .1)
+
+-- the second was looked at as a name
+other : (N : tie.After-is-name) → let U = N .before .before .before in isName (drop (K U .k .given .0 .0 + 1) (S (K U) .args .l .now)) ≡ N .is-name .result
+other N = let U = N .before .before .before in sym (ap isName (take-rest (S (K U) .args .l .now) (K U .k .given .0 .0 + 1))) ∙ sym (N .is-name .ensures)
 
 two-parts-requires : tie.Need-two-parts-requires
 two-parts-requires c κs = search needs
@@ -67,14 +83,15 @@ returns-2 c = let K = c .before .before .before .before .before in statement-wor
 
 returns-3 : tie.Need-returns-3
 returns-3 c =
-    let K = c .before .before .before .before .before .before .before .before .before in
-    let u = (union-is 0 (joined (take (K .k .given .0 .0) (S K .args .l .now))) (c .before .before .before .before .u .given .0 .0) (sym (c .before .before .before .before .before .before .union-of .ensures) ∙ c .before .before .before .before .u .given .1)) in
-    statement-is (S K .args .l .now) (K .k .given .0 .0) (two K .0) (two K .1) (c .before .before .before .before .u .given .0 .0) (u .0) (u .1) (sym (ap isName (take-rest (S K .args .l .now) (K .k .given .0 .0 + 1))) ∙ sym (c .before .is-name .ensures) ∙ c .if1 .taken)
+    let N = c .before in
+    let U = N .before .before .before in
+    statement-is (S (K U) .args .l .now) (K U .k .given .0 .0) (two (K U) .0) (two (K U) .1) (U .u .given .0 .0) (said U .0) (said U .1) (other N ∙ c .if1 .taken)
 
 returns-4 : tie.Need-returns-4
 returns-4 c =
-    let K = c .before .before .before .before .before .before .before .before .before in
-    statement-name (S K .args .l .now) (K .k .given .0 .0) (two K .0) (two K .1) ((union-is 0 (joined (take (K .k .given .0 .0) (S K .args .l .now))) (c .before .before .before .before .u .given .0 .0) (sym (c .before .before .before .before .before .before .union-of .ensures) ∙ c .before .before .before .before .u .given .1)) .0) (sym (ap isName (take-rest (S K .args .l .now) (K .k .given .0 .0 + 1))) ∙ sym (c .before .is-name .ensures) ∙ c .if1 .left)
+    let N = c .before in
+    let U = N .before .before .before in
+    statement-name (S (K U) .args .l .now) (K U .k .given .0 .0) (two (K U) .0) (two (K U) .1) (said U .0) (other N ∙ c .if1 .left)
 
 pub statement-form-spec : {M : Type 1} → statement M
 statement-form-spec =

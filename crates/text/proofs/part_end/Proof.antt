@@ -3,8 +3,7 @@ use mathlib.Core.Path.{_≡_}
 use Prim.Native.Nat.{_+_, _-_, _≤_}
 use lib.ListN.{length, drop}
 use native.Mathlib.Omega.{arith}
-use Rattle.text.specs.Steps.{until}
-use Rattle.text.proofs.PartLaws.{part-end, until-stop, until-more, until-end}
+use Rattle.text.proofs.PartLaws.{until, part-end, until-stop, until-more, until-end}
 use borrow.Author.Needs.{needs}
 use Rattle.text.proofs.part_end.Statement.{statement}
 use Rattle.text.proofs.part_end.Tie as tie
