@@ -9,6 +9,7 @@ ghost use Rattle.plain.specs.Answers.{PlainCloses};
 ghost use Rattle.plain.specs.Routes.{OneRoute, CellTo, RowTo, AllTo, Pass, Sweeps};
 use grid::Judged;
 use refusal::Refusal;
+use relation::HALF_ROWS;
 use relation::UNFILLED;
 
 pub enum PlainAnswer {
@@ -31,7 +32,7 @@ pub fn plain_close(g: &mut [u16], n: usize) -> PlainAnswer
     match judged {
         Judged::Refused(r) => PlainAnswer::Refused(r),
         Judged::Accepted => {
-            let mut rows = [UNFILLED; 2496];
+            let mut rows = [UNFILLED; HALF_ROWS];
             relation::fill_half_rows(&mut rows);
             sweep_accepted(&rows, g, n)
         }
@@ -39,7 +40,7 @@ pub fn plain_close(g: &mut [u16], n: usize) -> PlainAnswer
 }
 
 // Sweeps an accepted grid until a sweep changes nothing.
-fn sweep_accepted(rows: &[u16; 2496], g: &mut [u16], n: usize) -> PlainAnswer
+fn sweep_accepted(rows: &[u16; HALF_ROWS], g: &mut [u16], n: usize) -> PlainAnswer
     requires { ⌜ HalfRows (now rows) × Accepted n (now g) ⌝ }
     ensures { λ r. ⌜ Sweeps n (now (g .entry)) r (now (g .exit)) ⌝ }
 {
@@ -60,7 +61,7 @@ fn sweep_accepted(rows: &[u16; 2496], g: &mut [u16], n: usize) -> PlainAnswer
 }
 
 // One sweep.
-fn sweep_all(rows: &[u16; 2496], g: &mut [u16], n: usize) -> Swept
+fn sweep_all(rows: &[u16; HALF_ROWS], g: &mut [u16], n: usize) -> Swept
     requires { ⌜ HalfRows (now rows) × Held n (now g) ⌝ }
     ensures { λ r. ⌜ Pass n (AllTo n n) (now (g .entry)) r (now (g .exit)) ⌝ }
 {
@@ -78,7 +79,7 @@ fn sweep_all(rows: &[u16; 2496], g: &mut [u16], n: usize) -> Swept
 }
 
 // The part of a sweep from event a.
-fn sweep_row(rows: &[u16; 2496], g: &mut [u16], n: usize, a: usize) -> Swept
+fn sweep_row(rows: &[u16; HALF_ROWS], g: &mut [u16], n: usize, a: usize) -> Swept
     requires { ⌜ HalfRows (now rows) × (a < n) × Held n (now g) ⌝ }
     ensures { λ r. ⌜ Pass n (RowTo n a n) (now (g .entry)) r (now (g .exit)) ⌝ }
 {
@@ -96,7 +97,7 @@ fn sweep_row(rows: &[u16; 2496], g: &mut [u16], n: usize, a: usize) -> Swept
 }
 
 // The part of a sweep from event a to event b.
-fn sweep_cell(rows: &[u16; 2496], g: &mut [u16], n: usize, a: usize, b: usize) -> Swept
+fn sweep_cell(rows: &[u16; HALF_ROWS], g: &mut [u16], n: usize, a: usize, b: usize) -> Swept
     requires { ⌜ HalfRows (now rows) × (a < b) × (b < n) × Held n (now g) ⌝ }
     ensures { λ r. ⌜ Pass n (CellTo n a b n) (now (g .entry)) r (now (g .exit)) ⌝ }
 {
@@ -114,7 +115,14 @@ fn sweep_cell(rows: &[u16; 2496], g: &mut [u16], n: usize, a: usize, b: usize) -
 }
 
 // Cuts (a, b) to what (a, m) with (m, b) allows.
-fn cut_by_route(rows: &[u16; 2496], g: &mut [u16], n: usize, a: usize, m: usize, b: usize) -> Swept
+fn cut_by_route(
+    rows: &[u16; HALF_ROWS],
+    g: &mut [u16],
+    n: usize,
+    a: usize,
+    m: usize,
+    b: usize,
+) -> Swept
     requires { ⌜ HalfRows (now rows) × (a < b) × (b < n) × (m < n) × Held n (now g) ⌝ }
     ensures { λ r. ⌜ Pass n (OneRoute n a m b) (now (g .entry)) r (now (g .exit)) ⌝ }
 {

@@ -10,6 +10,7 @@ ghost use Rattle.quick.specs.Answers.{quickRule, QuickCloses};
 ghost use Rattle.quick.specs.Steps.{Shows};
 use grid::Judged;
 use refusal::Refusal;
+use relation::HALF_ROWS;
 use relation::UNFILLED;
 use takes::End;
 use takes::Line;
@@ -30,7 +31,7 @@ pub fn quick_close(g: &mut [u16], n: usize, limit: usize) -> QuickAnswer
     match judged {
         Judged::Refused(r) => QuickAnswer::Refused(r),
         Judged::Accepted => {
-            let mut rows = [UNFILLED; 2496];
+            let mut rows = [UNFILLED; HALF_ROWS];
             relation::fill_half_rows(&mut rows);
             close_accepted(&rows, g, n, limit)
         }
@@ -38,7 +39,7 @@ pub fn quick_close(g: &mut [u16], n: usize, limit: usize) -> QuickAnswer
 }
 
 // Closes an accepted grid.
-fn close_accepted(rows: &[u16; 2496], g: &mut [u16], n: usize, limit: usize) -> QuickAnswer
+fn close_accepted(rows: &[u16; HALF_ROWS], g: &mut [u16], n: usize, limit: usize) -> QuickAnswer
     requires { ⌜ HalfRows (now rows) × Accepted n (now g) ⌝ }
     ensures { λ r. ⌜ Shows n (quickRule n limit (now (g .entry))) r (now (g .exit)) ⌝ }
 {

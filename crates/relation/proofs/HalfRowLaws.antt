@@ -1,20 +1,20 @@
 -- The half rows: two of them give a row, and each place comes from one before it. Assumes nothing.
 use mathlib.Core.Path.{_≡_, sym, ap, ap₂, _∙_}
-use mathlib.Core.List.{List, []}
+use mathlib.Core.List.{List}
 use Prim.Native.Nat.{ℕ, suc, _+_, _-_, _*_, _/_, _%_, _^_, _≤_, _<_}
 use native.Mathlib.Omega.{arith}
 use native.Mathlib.Nat.{add-assoc, add-mul, pow-suc}
 use borrow.Author.Tests.{lt-ltb, le-ltb}
-use lib.Arith.{digits-lt, digits-div, digits-mod}
+use lib.Arith.{digits-div, digits-mod}
 use lib.Bits.{bitOr, or-shifted-r}
 use lib.ListN.{getD, set, length-set}
 use lib.Pow.{pow-add, pow-mono, pow-pos, shl-lt}
-use Rattle.relation.specs.Composition.{table, entry, composeRow}
+use Rattle.relation.specs.Composition.{entry, composeRow}
 use Rattle.relation.specs.HalfRows.{halfSet, HalfRows}
-use Rattle.relation.specs.Filling.{halfRowAt, FilledTo, Doubles, Half}
+use Rattle.relation.specs.Filling.{halfRowAt, FilledTo, Column, Doubles, Begins, Half}
 use Rattle.relation.proofs.FillLaws.{filled-more}
 use Rattle.relation.proofs.UnionLaws.{union-small, union-or, union-mark, union-none}
-use Rattle.relation.proofs.Laws.{entry-lt, entry-read}
+use Rattle.relation.proofs.Laws.{entry-small}
 
 halfSet-low : (q : ℕ) → q < 128 → halfSet q ≡ q
 halfSet-low q h = simp (lt-ltb q 128 h)
@@ -32,7 +32,7 @@ row-halves r b =
 
 -- what the half rows give for r and b
 pub rows-give : (rows : List ℕ) (r b : ℕ) → HalfRows rows → r < 13
-    → bitOr (getD rows (r * 192 + b % 128) 0) (getD rows (r * 192 + (128 + b / 128 % 64)) 0) ≡ composeRow r b
+    → bitOr (getD rows (b % 128 * 16 + r) 0) (getD rows ((128 + b / 128 % 64) * 16 + r) 0) ≡ composeRow r b
 rows-give rows r b w h =
     let low = w .at r (b % 128) h (omega arith) in
     let high = w .at r (128 + b / 128 % 64) h (omega arith) in
@@ -43,52 +43,56 @@ rows-give rows r b w h =
 
 -- ---- filling them in
 
-pub filled-next : (rows : List ℕ) (p x : ℕ) → p < 2496 → FilledTo rows p → x ≡ halfRowAt p → FilledTo (set rows p x) (p + 1)
+pub filled-next : (rows : List ℕ) (p x : ℕ) → p < 3072 → FilledTo rows p → x ≡ halfRowAt p → FilledTo (set rows p x) (p + 1)
 filled-next rows p x h f e =
     record {
       long = simp length-set (f .long);
       so-far = filled-more halfRowAt rows p x (omega (arith, f .long)) (f .so-far) e;
     }
 
--- the place of r and q
-place-of : (r q : ℕ) → q < 192 → halfRowAt (r * 192 + q) ≡ composeRow r (halfSet q)
-place-of r q k = ap₂ (λ (x y : ℕ). composeRow x (halfSet y)) (digits-div r k) (digits-mod r k)
+-- the entry of place q and relation r
+place-of : (q r : ℕ) → r < 16 → halfRowAt (q * 16 + r) ≡ composeRow r (halfSet q)
+place-of q r k = ap₂ (λ (x y : ℕ). composeRow y (halfSet x)) (digits-div q k) (digits-mod q k)
 
-pub rows-filled : (rows : List ℕ) → FilledTo rows 2496 → HalfRows rows
-rows-filled rows f = record { at = λ r q h k. f .so-far (r * 192 + q) (digits-lt h k) ∙ place-of r q k }
+pub rows-filled : (rows : List ℕ) → FilledTo rows 3072 → HalfRows rows
+rows-filled rows f = record { at = λ r q h k. f .so-far (q * 16 + r) (omega (arith, k, h)) ∙ place-of q r (omega (arith, h)) }
 
-pub first-half : (r : ℕ) → r < 13 → Half r (r * 192) 0 7
-first-half r h =
+pub first-half : Half 0 0 7
+first-half =
     record {
-      few = h;
       low = omega arith;
       high = omega arith;
       fits = omega arith;
-      holds = λ q k. place-of r q (omega arith) ∙ ap (composeRow r) (halfSet-low q k ∙ omega arith);
+      holds = λ q r k h.
+          let e : 0 + q ≡ q = omega arith in
+          let z : q ≡ q * 1 = omega arith in
+          ap (λ (x : ℕ). halfRowAt (x * 16 + r)) e ∙ place-of q r h ∙ ap (composeRow r) (halfSet-low q k ∙ z);
     }
 
-pub second-half : (r : ℕ) → r < 13 → Half r (r * 192 + 128) 7 13
-second-half r h =
+pub second-half : Half 128 7 13
+second-half =
     record {
-      few = h;
       low = omega arith;
       high = omega arith;
       fits = omega arith;
-      holds = λ q k.
+      holds = λ q r k h.
           let e : 128 + q - 128 ≡ q = omega arith in
-          ap halfRowAt (add-assoc (r * 192) 128 q) ∙ place-of r (128 + q) (omega arith)
-          ∙ ap (composeRow r) (halfSet-high (128 + q) (omega arith) ∙ ap (λ (y : ℕ). y * 128) e);
+          place-of (128 + q) r h ∙ ap (composeRow r) (halfSet-high (128 + q) (omega arith) ∙ ap (λ (y : ℕ). y * 128) e);
     }
 
-module _ (r at first last : ℕ) (half : Half r at first last) where
-  -- with no relation, a half row begins
-  pub half-begins : halfRowAt at ≡ 0
+module _ (at first last : ℕ) (half : Half at first last) where
+  -- with no relation, a half begins
+  pub half-begins : Begins at
   unfolding composeRow
   half-begins =
-      let z : at + 0 ≡ at = omega arith in
-      sym (ap halfRowAt z) ∙ half .holds 0 (omega (arith, pow-pos (last - first))) ∙ ap (composeRow r) (omega arith) ∙ union-none (entry r)
+      record {
+        nothing = λ r h.
+            let z : at ≡ at + 0 = omega arith in
+            let n : 0 * 2 ^ first ≡ 0 = omega arith in
+            ap (λ (x : ℕ). halfRowAt (x * 16 + r)) z ∙ half .holds 0 r (pow-pos (last - first)) h ∙ ap (composeRow r) n ∙ union-none (entry r);
+      }
 
-  -- with relation s, what stands there comes again, and what r and s allow is joined
+  -- with relation s, what stands there comes again, and what each relation with s allows is joined
   module _ (s : ℕ) (from : first ≤ s) (to : s < last) where
     abbrev size : ℕ
     size = 2 ^ (s - first)
@@ -96,35 +100,33 @@ module _ (r at first last : ℕ) (half : Half r at first last) where
     twice : size * 2 ≤ 2 ^ (last - first)
     twice = let n : suc (s - first) ≤ last - first = omega arith in omega (arith, pow-suc 2 (s - first), pow-mono n)
 
-    with-mark : (y : ℕ) → y < 2 ^ s → composeRow r (2 ^ s + y) ≡ bitOr (composeRow r y) (entry r s)
+    with-mark : (r y : ℕ) → y < 2 ^ s → composeRow r (2 ^ s + y) ≡ bitOr (composeRow r y) (entry r s)
     unfolding composeRow
-    with-mark y l =
+    with-mark r y l =
         let e : 1 * 2 ^ s ≡ 2 ^ s = omega arith in
+        let k : s < 13 = omega (arith, half .high) in
         ap (composeRow r) (ap (λ (m : ℕ). m + y) (sym e) ∙ sym (or-shifted-r 1 s y l)) ∙ union-or (entry r) y (1 * 2 ^ s)
-        ∙ ap (λ (m : ℕ). bitOr (composeRow r y) (composeRow r m)) e
-        ∙ ap (bitOr (composeRow r y)) (union-mark (entry r) s (omega (arith, half .high)) (entry-lt r s (half .few) (omega (arith, half .high))))
+        ∙ ap (λ (m : ℕ). bitOr (composeRow r y) (composeRow r m)) e ∙ ap (bitOr (composeRow r y)) (union-mark (entry r) s k (entry-small r s k))
 
     shifted : size * 2 ^ first ≡ 2 ^ s
     shifted = let e : s - first + first ≡ s = omega arith in sym (pow-add 2 (s - first) first) ∙ ap (λ (k : ℕ). 2 ^ k) e
 
-    doubles : Doubles at size (entry r s)
-    doubles =
-        record {
-          again = λ q l.
-              let e : s - first + first ≡ s = omega arith in
-              let small : q * 2 ^ first < 2 ^ s = rw (← e) (shl-lt (s - first) first l) in
-              ap halfRowAt (add-assoc at size q) ∙ half .holds (size + q) (omega (arith, twice))
-              ∙ ap (composeRow r) (add-mul size q (2 ^ first) ∙ ap (λ (m : ℕ). m + q * 2 ^ first) shifted)
-              ∙ with-mark (q * 2 ^ first) small ∙ ap (λ (m : ℕ). bitOr m (entry r s)) (sym (half .holds q (omega (arith, twice))));
-        }
+    doubled : (q r : ℕ) → q < size → r < 16 → halfRowAt ((at + size + q) * 16 + r) ≡ bitOr (halfRowAt ((at + q) * 16 + r)) (entry r s)
+    doubled q r l h =
+        let e : s - first + first ≡ s = omega arith in
+        let small : q * 2 ^ first < 2 ^ s = rw (← e) (shl-lt (s - first) first l) in
+        ap (λ (x : ℕ). halfRowAt (x * 16 + r)) (add-assoc at size q) ∙ half .holds (size + q) r (omega (arith, twice)) h
+        ∙ ap (composeRow r) (add-mul size q (2 ^ first) ∙ ap (λ (m : ℕ). m + q * 2 ^ first) shifted)
+        ∙ with-mark r (q * 2 ^ first) small ∙ ap (λ (m : ℕ). bitOr m (entry r s)) (sym (half .holds q r (omega (arith, twice)) h))
 
-    -- of the code's size, and the entry that it reads
+    -- of the code's size and column
     module _ (z : ℕ) (e : z ≡ size) where
-      pub half-doubles : (t : List (List ℕ)) → t ≡ table → Doubles at z (getD (getD t r []) s 0)
-      half-doubles t is = rw (e, entry-read t r s is) doubles
+      pub half-doubles : (col : List ℕ) → Column s col → Doubles at z col
+      half-doubles col c =
+          rw e (record { again = λ q l. record { at = λ r h. doubled q r l h ∙ ap (bitOr (halfRowAt ((at + q) * 16 + r))) (sym (c .at r h)) } })
 
       pub size-next : z * 2 ≡ 2 ^ (s + 1 - first)
       size-next = let n : s + 1 - first ≡ suc (s - first) = omega arith in rw (e, n) (omega (arith, pow-suc 2 (s - first)))
 
-      pub size-fits : at + z * 2 ≤ 2496
+      pub size-fits : at + z * 2 ≤ 192
       size-fits = omega (arith, twice, half .fits)

@@ -1,11 +1,12 @@
 -- The laws of composition of sets, from its meaning. Assumes nothing.
 use mathlib.Core.Path.{_≡_, refl, sym, ap, _∙_, subst}
 use mathlib.Core.Logic.{_↔_}
-use Prim.Native.Nat.{ℕ, _<_}
+use Prim.Native.Nat.{ℕ, _≤_, _<_}
 use native.Mathlib.Omega.{arith}
+use native.Mathlib.Decide.{decLt}
 use lib.Dec.{T, eqb, eqb→eq, ltb, ltb→lt, lit<}
 use mathlib.Core.List.{List, []}
-use lib.ListN.{getD}
+use lib.ListN.{getD, List·getD-eq-default}
 use lib.Bits.{bitOr, or-lt}
 use Rattle.relation.specs.Comparing.{relOf}
 use Rattle.relation.specs.Meaning.{Event, holds, exchanged}
@@ -34,6 +35,18 @@ pub entry-lt : (r s : ℕ) → r < 13 → s < 13 → entry r s < 8192
 entry-lt r s h k =
     ltb→lt (entry r s) 8192
     (all-at 13 (λ s. ltb (entry r s) 8192) (all-at 13 (λ r. all 13 (λ s. ltb (entry r s) 8192)) entry-test r h) s k)
+
+-- past the last row there is nothing
+pub entry-beyond : (r s : ℕ) → 13 ≤ r → entry r s ≡ 0
+unfolding entry
+entry-beyond r s h = ap (λ (l : List ℕ). getD l s 0) (List·getD-eq-default table [] h)
+
+pub entry-small : (r s : ℕ) → s < 13 → entry r s < 8192
+entry-small r s k = go (decLt r 13)
+  where
+    go : Dec (r < 13) → entry r s < 8192
+    go (yes h) = entry-lt r s h k
+    go (no n) = let e = entry-beyond r s (omega arith) in omega arith
 
 -- ---- the members of a composition
 

@@ -4,30 +4,41 @@ use mathlib.Core.List.{List}
 use Prim.Native.Nat.{ℕ, _+_, _-_, _*_, _/_, _%_, _^_, _≤_, _<_}
 use lib.Bits.{bitOr}
 use lib.ListN.{length, getD}
-use Rattle.relation.specs.Composition.{composeRow}
+use Rattle.relation.specs.Composition.{entry, composeRow}
 use Rattle.relation.specs.HalfRows.{halfSet}
 
--- the first p places hold what f says
+-- the first p entries hold what f says
 abbrev pub Filled : (ℕ → ℕ) → List ℕ → ℕ → Type 0
 Filled f l p = (k : ℕ) → k < p → getD l k 0 ≡ f k
 
--- what place p of the half rows holds
+-- what entry p of the half rows holds; the last three at a place stand for no relation, and hold nothing
 abbrev pub halfRowAt : ℕ → ℕ
-halfRowAt p = composeRow (p / 192) (halfSet (p % 192))
+halfRowAt p = composeRow (p % 16) (halfSet (p / 16))
 
--- the half rows are filled in up to place p
+-- the half rows are filled in up to entry p
 pub record FilledTo (rows : List ℕ) (p : ℕ) : Type 0 where
-  pub long : length rows ≡ 2496
+  pub long : length rows ≡ 3072
   pub so-far : Filled halfRowAt rows p
 
--- as many places from `at` on hold again, after them, what they hold, with x joined
-pub record Doubles (at size x : ℕ) : Type 0 where
-  pub again : (q : ℕ) → q < size → halfRowAt (at + size + q) ≡ bitOr (halfRowAt (at + q)) x
+-- each relation with relation s
+pub record Column (s : ℕ) (col : List ℕ) : Type 0 where
+  pub at : (r : ℕ) → r < 16 → getD col r 0 ≡ entry r s
 
--- from `at` on stands relation r with each set of the relations from first to before last
-pub record Half (r at first last : ℕ) : Type 0 where
-  pub few : r < 13
+-- place `to` holds what place `from` holds, with the column joined
+pub record Joins (from to : ℕ) (col : List ℕ) : Type 0 where
+  pub at : (r : ℕ) → r < 16 → halfRowAt (to * 16 + r) ≡ bitOr (halfRowAt (from * 16 + r)) (getD col r 0)
+
+-- as many places after those from `at` on hold what they hold, with the column joined
+pub record Doubles (at size : ℕ) (col : List ℕ) : Type 0 where
+  pub again : (q : ℕ) → q < size → Joins (at + q) (at + size + q) col
+
+-- the place of no relation holds nothing
+pub record Begins (at : ℕ) : Type 0 where
+  pub nothing : (r : ℕ) → r < 16 → halfRowAt (at * 16 + r) ≡ 0
+
+-- from `at` on stands each set of the relations from first to before last
+pub record Half (at first last : ℕ) : Type 0 where
   pub low : first ≤ last
   pub high : last ≤ 13
-  pub fits : at + 2 ^ (last - first) ≤ 2496
-  pub holds : (q : ℕ) → q < 2 ^ (last - first) → halfRowAt (at + q) ≡ composeRow r (q * 2 ^ first)
+  pub fits : at + 2 ^ (last - first) ≤ 192
+  pub holds : (q r : ℕ) → q < 2 ^ (last - first) → r < 16 → halfRowAt ((at + q) * 16 + r) ≡ composeRow r (q * 2 ^ first)

@@ -7,10 +7,10 @@ use lib.ListN.{getD}
 use Rattle.relation.specs.Meaning.{pickℕ}
 use Rattle.relation.specs.Composition.{composeRow}
 
--- the set that a place of a half row stands for: one of the first seven relations, or of the other six
+-- the set that a place stands for: one of the first seven relations, or of the other six
 abbrev pub halfSet : ℕ → ℕ
 halfSet q = pickℕ (ltb q 128) q ((q - 128) * 128)
 
--- 192 sets for each relation r: r with each set of the first seven relations, then with each set of the other six
+-- at each of 192 places stand 16 sets: for each relation r, r with the place's half set
 pub record HalfRows (rows : List ℕ) : Type 0 where
-  pub at : (r q : ℕ) → r < 13 → q < 192 → getD rows (r * 192 + q) 0 ≡ composeRow r (halfSet q)
+  pub at : (r q : ℕ) → r < 13 → q < 192 → getD rows (q * 16 + r) 0 ≡ composeRow r (halfSet q)

@@ -7,9 +7,9 @@ ghost use lib.Dec.{eqb};
 ghost use lib.ListN.{length};
 ghost use Rattle.relation.specs.Meaning.{exchanged};
 ghost use Rattle.relation.specs.Typed.{ListsExchanged};
-ghost use Rattle.relation.specs.Composition.{table, converse, composeRow, compose};
+ghost use Rattle.relation.specs.Composition.{table, entry, converse, composeRow, compose};
 ghost use Rattle.relation.specs.HalfRows.{HalfRows};
-ghost use Rattle.relation.specs.Filling.{FilledTo, Doubles, Half};
+ghost use Rattle.relation.specs.Filling.{FilledTo, Column, Joins, Doubles, Begins, Half};
 ghost use Rattle.relation.specs.Answers.{saidOf, converseSaid, composeSaid};
 
 mod table;
@@ -129,69 +129,115 @@ fn compose_of(a: u16, b: u16) -> u16
     out
 }
 
-// One more relation, that gives x: so many places from `at` on come again after them, each with x joined.
-fn double(rows: &mut [u16; 2496], at: usize, size: usize, x: u16)
-    requires { ⌜ (at + size * 2 ≤ 2496) × FilledTo (now rows) (at + size) × Doubles at size x ⌝ }
-    ensures { λ _. ⌜ FilledTo (now (rows .exit)) (at + size * 2) ⌝ }
+// The places of the half rows, one for each half set, and the sets at each place: one for each relation, and none for the last three.
+pub const PLACES: usize = 192;
+
+pub const AT_PLACE: usize = 16;
+
+pub const HALF_ROWS: usize = PLACES * AT_PLACE;
+
+// What stands in the half rows before they are filled in. Zeros would be written by a call of memset, which an emulator runs slowly.
+pub const UNFILLED: u16 = 8191;
+
+// What relation r with relation s allows, and nothing where r is no relation.
+fn entry(t: &[[u16; 13]; 13], r: usize, s: usize) -> u16
+    requires { ⌜ (now t ≡ table) × (s < 13) ⌝ }
+    ensures { λ x. ⌜ x ≡ entry r s ⌝ }
+{
+    if 13 <= r {
+        return 0;
+    }
+    t[r][s]
+}
+
+// Each relation with relation s.
+fn column(t: &[[u16; 13]; 13], s: usize) -> [u16; AT_PLACE]
+    requires { ⌜ (now t ≡ table) × (s < 13) ⌝ }
+    ensures { λ col. ⌜ Column s col ⌝ }
+{
+    let mut col = [0u16; AT_PLACE];
+    let mut r = 0;
+    while r < AT_PLACE {
+        col[r] = entry(t, r, s);
+        r += 1;
+    }
+    col
+}
+
+// The sets at one place become those at another, each with its own of the column joined.
+fn join_column(rows: &mut [u16; HALF_ROWS], from: usize, to: usize, col: &[u16; AT_PLACE])
+    requires { ⌜ (from < to) × (to < 192) × FilledTo (now rows) (to * 16) × Joins from to (now col) ⌝ }
+    ensures { λ _. ⌜ FilledTo (now (rows .exit)) ((to + 1) * 16) ⌝ }
+{
+    let mut r = 0;
+    while r < AT_PLACE {
+        rows[to * AT_PLACE + r] = rows[from * AT_PLACE + r] | col[r];
+        r += 1;
+    }
+}
+
+// One more relation: so many places from `at` on come again after them, each with the relation's column joined.
+fn double(rows: &mut [u16; HALF_ROWS], at: usize, size: usize, col: &[u16; AT_PLACE])
+    requires { ⌜ (at + size * 2 ≤ 192) × FilledTo (now rows) ((at + size) * 16) × Doubles at size (now col) ⌝ }
+    ensures { λ _. ⌜ FilledTo (now (rows .exit)) ((at + size * 2) * 16) ⌝ }
 {
     let mut q = 0;
     while q < size {
-        rows[at + size + q] = rows[at + q] | x;
+        join_column(rows, at + q, at + size + q, col);
         q += 1;
     }
 }
 
-// A half row of relation r, from `at` on: r with each set of the relations from first to before last.
-fn fill_half(
-    t: &[[u16; 13]; 13],
-    rows: &mut [u16; 2496],
-    r: usize,
-    at: usize,
-    first: usize,
-    last: usize,
-)
-    requires { ⌜ (now t ≡ table) × Half r at first last × FilledTo (now rows) at ⌝ }
-    ensures { λ _. ⌜ FilledTo (now (rows .exit)) (at + 2 ^ (last - first)) ⌝ }
+// The place of no relation at all.
+fn begin_half(rows: &mut [u16; HALF_ROWS], at: usize)
+    requires { ⌜ (at < 192) × FilledTo (now rows) (at * 16) × Begins at ⌝ }
+    ensures { λ _. ⌜ FilledTo (now (rows .exit)) ((at + 1) * 16) ⌝ }
 {
-    rows[at] = 0;
+    let mut r = 0;
+    while r < AT_PLACE {
+        rows[at * AT_PLACE + r] = 0;
+        r += 1;
+    }
+}
+
+// The places from `at` on: one for each set of the relations from first to before last.
+fn fill_half(t: &[[u16; 13]; 13], rows: &mut [u16; HALF_ROWS], at: usize, first: usize, last: usize)
+    requires { ⌜ (now t ≡ table) × Half at first last × FilledTo (now rows) (at * 16) ⌝ }
+    ensures { λ _. ⌜ FilledTo (now (rows .exit)) ((at + 2 ^ (last - first)) * 16) ⌝ }
+{
+    begin_half(rows, at);
     let mut size = 1;
     let mut s = first;
     while s < last {
-        double(rows, at, size, t[r][s]);
+        let col = column(t, s);
+        double(rows, at, size, &col);
         size *= 2;
         s += 1;
     }
 }
 
-// What stands in the half rows before they are filled in. Zeros would be written by a call of memset, which an emulator runs slowly.
-pub const UNFILLED: u16 = 8191;
-
 // Fills in the half rows, once for many compositions.
-pub fn fill_half_rows(rows: &mut [u16; 2496])
-    requires { ⌜ length (now rows) ≡ 2496 ⌝ }
+pub fn fill_half_rows(rows: &mut [u16; HALF_ROWS])
+    requires { ⌜ length (now rows) ≡ 3072 ⌝ }
     ensures { λ _. ⌜ HalfRows (now (rows .exit)) ⌝ }
 {
     let t = TABLE;
-    let mut r = 0;
-    while r < 13 {
-        fill_half(&t, rows, r, r * 192, 0, 7);
-        fill_half(&t, rows, r, r * 192 + 128, 7, 13);
-        r += 1;
-    }
+    fill_half(&t, rows, 0, 0, 7);
+    fill_half(&t, rows, 128, 7, 13);
 }
 
 // One relation with a set, from two half rows.
-fn row_by_halves(rows: &[u16; 2496], r: usize, b: u16) -> u16
+fn row_by_halves(rows: &[u16; HALF_ROWS], r: usize, b: u16) -> u16
     requires { ⌜ HalfRows (now rows) × (r < 13) ⌝ }
     ensures { λ x. ⌜ x ≡ composeRow r b ⌝ }
 {
     let low = (b % 128) as usize;
     let high = 128 + (b / 128 % 64) as usize;
-    rows[r * 192 + low] | rows[r * 192 + high]
+    rows[low * AT_PLACE + r] | rows[high * AT_PLACE + r]
 }
 
 // The composition of two sets, from the half rows: for many calls.
-pub fn compose_by_rows(rows: &[u16; 2496], a: u16, b: u16) -> u16
+pub fn compose_by_rows(rows: &[u16; HALF_ROWS], a: u16, b: u16) -> u16
     requires { ⌜ HalfRows (now rows) ⌝ }
     ensures { λ x. ⌜ x ≡ compose a b ⌝ }
 {
@@ -206,7 +252,7 @@ pub fn compose_by_rows(rows: &[u16; 2496], a: u16, b: u16) -> u16
 }
 
 // Whether a with b allows every member of a set. It mostly does after a member or two of a, and then the others are not looked at.
-pub fn allows(rows: &[u16; 2496], a: u16, b: u16, set: u16) -> bool
+pub fn allows(rows: &[u16; HALF_ROWS], a: u16, b: u16, set: u16) -> bool
     requires { ⌜ HalfRows (now rows) ⌝ }
     ensures { λ x. ⌜ x ≡ eqb (bitAnd set (compose a b)) set ⌝ }
 {

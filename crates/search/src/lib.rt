@@ -15,6 +15,7 @@ ghost use Rattle.search.specs.Answers.{saidOf, searchRefusal, Looks};
 ghost use Rattle.search.specs.Steps.{saidWith, Shows, Settles, Answers, Searched, Stands, Steps, Passes, goesOn, Next};
 use grid::Judged;
 use refusal::Refusal;
+use relation::HALF_ROWS;
 use relation::UNFILLED;
 use takes::End;
 use takes::Line;
@@ -111,7 +112,7 @@ fn pass_decided(work: &[u16], n: usize, from: Stand, allowance: u32) -> Stand
 }
 
 // One try: cuts cell (i, j) and its mirror to relation r, and closes from that pair.
-fn attempt(rows: &[u16; 2496], g: &mut [u16], n: usize, i: usize, j: usize, r: usize) -> End
+fn attempt(rows: &[u16; HALF_ROWS], g: &mut [u16], n: usize, i: usize, j: usize, r: usize) -> End
     requires { ⌜ HalfRows (now rows) × Held n (now g) × (i < n) × (j < n) × (i ≡ j → ⊥) × (r < 13) ⌝ }
     ensures { λ e. ⌜ triedBy (ended e (now (g .exit))) ≡ tryAt n (i, j) r (now (g .entry)) ⌝ }
 {
@@ -125,7 +126,7 @@ fn attempt(rows: &[u16; 2496], g: &mut [u16], n: usize, i: usize, j: usize, r: u
 
 // One try on a copy of the grid, at the front of a room for a grid.
 fn attempt_in(
-    rows: &[u16; 2496],
+    rows: &[u16; HALF_ROWS],
     g: &[u16],
     cut: &mut [u16],
     n: usize,
@@ -143,7 +144,7 @@ fn attempt_in(
 
 // Decides the cells of a closed grid from a stand on. Past the last, the placing is written to the room.
 pub fn look(
-    rows: &[u16; 2496],
+    rows: &[u16; HALF_ROWS],
     n: usize,
     from: Stand,
     g: &[u16],
@@ -225,7 +226,7 @@ fn settled(g: &[u16], n: usize, tries: u32, room: &mut [i32]) -> Looked
 }
 
 // Closes a grid from the list of all pairs.
-fn close_all(rows: &[u16; 2496], g: &mut [u16], n: usize) -> End
+fn close_all(rows: &[u16; HALF_ROWS], g: &mut [u16], n: usize) -> End
     requires { ⌜ HalfRows (now rows) × Held n (now g) ⌝ }
     ensures { λ e. ⌜ ended e (now (g .exit)) ≡ run allen n enough 0 (now (g .entry)) (allPairs n) ⌝ }
 {
@@ -236,7 +237,7 @@ fn close_all(rows: &[u16; 2496], g: &mut [u16], n: usize) -> End
 }
 
 // Copies an accepted grid to the front of a working grid, and closes it there.
-fn close_copy(rows: &[u16; 2496], g: &[u16], work: &mut [u16], n: usize) -> End
+fn close_copy(rows: &[u16; HALF_ROWS], g: &[u16], work: &mut [u16], n: usize) -> End
     requires { ⌜ HalfRows (now rows) × Accepted n (now g) × Held n (now work) ⌝ }
     ensures { λ e. ⌜ triedBy (ended e (take (n * n) (now (work .exit)))) ≡ triedBy (run allen n enough 0 (now (g .entry)) (allPairs n)) ⌝ }
 {
@@ -266,7 +267,7 @@ fn search_accepted(g: &[u16], n: usize, allowance: u32, room: &mut [i32]) -> Pla
     if grid::some_empty(g) {
         return PlaceAnswer::None(0);
     }
-    let mut rows = [UNFILLED; 2496];
+    let mut rows = [UNFILLED; HALF_ROWS];
     relation::fill_half_rows(&mut rows);
     let mut work = [0u16; 1024];
     let first = close_copy(&rows, g, &mut work, n);

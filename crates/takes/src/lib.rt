@@ -10,6 +10,7 @@ ghost use Rattle.theory.specs.Line.{pairOf, joins};
 ghost use Rattle.theory.specs.Quick.{going, cut, turn, turns, run};
 ghost use Rattle.takes.specs.Waiting.{IsPair, Left};
 ghost use Rattle.takes.specs.Steps.{Waits, waitingIn, Steps, Still, StillUntil, ended};
+use relation::HALF_ROWS;
 
 // The waiting list: it starts at head in the ring and is len pairs long.
 pub struct Line {
@@ -77,7 +78,7 @@ fn write_cut(
 
 // Cuts (a, b) to what (a, m) with (m, b) allows.
 fn cut_cell(
-    rows: &[u16; 2496],
+    rows: &[u16; HALF_ROWS],
     g: &mut [u16],
     ring: &mut [u16; 1024],
     flag: &mut [u8; 1024],
@@ -105,7 +106,7 @@ fn cut_cell(
 
 // Both cuts at k, in the take of (i, j).
 fn turn_at(
-    rows: &[u16; 2496],
+    rows: &[u16; HALF_ROWS],
     g: &mut [u16],
     ring: &mut [u16; 1024],
     flag: &mut [u8; 1024],
@@ -132,7 +133,7 @@ fn turn_at(
 }
 
 // Whether the turn of k in the take of (i, j) is seen to cut nothing.
-fn is_still(rows: &[u16; 2496], g: &[u16], n: usize, i: usize, j: usize, k: usize) -> bool
+fn is_still(rows: &[u16; HALF_ROWS], g: &[u16], n: usize, i: usize, j: usize, k: usize) -> bool
     requires { ⌜ HalfRows (now rows) × (i < n) × (j < n) × (k < n) × Held n (now g) ⌝ }
     ensures { λ r. ⌜ (r ≡ true → Still n i j (now (g .entry)) k) ⌝ }
 {
@@ -146,7 +147,7 @@ fn is_still(rows: &[u16; 2496], g: &[u16], n: usize, i: usize, j: usize, k: usiz
 }
 
 // The first event from k on whose turn may cut something, or n. Most turns cut nothing, and this only reads.
-fn still_until(rows: &[u16; 2496], g: &[u16], n: usize, i: usize, j: usize, k: usize) -> usize
+fn still_until(rows: &[u16; HALF_ROWS], g: &[u16], n: usize, i: usize, j: usize, k: usize) -> usize
     requires { ⌜ HalfRows (now rows) × (i < n) × (j < n) × (k ≤ n) × Held n (now g) ⌝ }
     ensures { λ r. ⌜ StillUntil n i j (now (g .entry)) k r ⌝ }
 {
@@ -162,7 +163,7 @@ fn still_until(rows: &[u16; 2496], g: &[u16], n: usize, i: usize, j: usize, k: u
 
 // One take of (i, j).
 fn take_pair(
-    rows: &[u16; 2496],
+    rows: &[u16; HALF_ROWS],
     g: &mut [u16],
     ring: &mut [u16; 1024],
     flag: &mut [u8; 1024],
@@ -212,7 +213,7 @@ fn leave(ring: &[u16; 1024], flag: &mut [u8; 1024], n: usize, l: Line) -> First
 
 // At most limit takes.
 pub fn takes(
-    rows: &[u16; 2496],
+    rows: &[u16; HALF_ROWS],
     g: &mut [u16],
     ring: &mut [u16; 1024],
     flag: &mut [u8; 1024],

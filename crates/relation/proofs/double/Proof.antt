@@ -1,43 +1,38 @@
--- The places before are filled, and each new one follows from the one that it doubles.
-use mathlib.Core.Path.{_≡_, ap, sym, _∙_, subst}
-use Prim.Native.Nat.{ℕ, _+_, _*_, _-_, _≤_}
-use lib.Bits.{bitOr}
+-- Place after place, each from the one that it doubles.
+use mathlib.Core.Path.{_≡_, subst}
+use Prim.Native.Nat.{_+_, _*_, _-_, _≤_}
 use Rattle.relation.specs.Filling.{FilledTo}
-use Rattle.relation.proofs.HalfRowLaws.{filled-next}
-use borrow.Author.Needs.{needs}
 use native.Mathlib.Omega.{arith}
+use borrow.Author.Needs.{needs}
 use Rattle.relation.proofs.double.Statement.{statement}
 use Rattle.relation.proofs.double.Tie as tie
 
 abbrev Inv-loop : tie.InvT-loop
-Inv-loop rows₀ at size x q₀ rows q = (q ≤ size) × FilledTo rows (at + size + q)
+Inv-loop rows₀ at size col q₀ rows q = (q ≤ size) × FilledTo rows ((at + size + q) * 16)
 
 abbrev μ-loop : tie.MeasureT-loop
-μ-loop rows₀ at size x q₀ rows q = size - q
+μ-loop rows₀ at size col q₀ rows q = size - q
 
 loop-holds : tie.Need-loop-holds Inv-loop μ-loop
-loop-holds c = let z : c .args .at + c .args .size ≡ c .args .at + c .args .size + 0 = omega arith in (search needs, subst (FilledTo _) z (c .pre .1))
+loop-holds c =
+    let z : (c .args .at + c .args .size) * 16 ≡ (c .args .at + c .args .size + 0) * 16 = omega arith in
+    (search needs, subst (FilledTo _) z (c .pre .1))
 
-add-rows : tie.Need-add-rows Inv-loop μ-loop
-add-rows c = search needs
+add-join-column : tie.Need-add-join-column Inv-loop μ-loop
+add-join-column c = search needs
 
-mul-rows : tie.Need-mul-rows Inv-loop μ-loop
-mul-rows c = search needs
+add-join-column-2 : tie.Need-add-join-column-2 Inv-loop μ-loop
+add-join-column-2 c = search needs
 
-element-copy-out-rows : tie.Need-element-copy-out-rows Inv-loop μ-loop
-element-copy-out-rows c = search needs
+add-join-column-3 : tie.Need-add-join-column-3 Inv-loop μ-loop
+add-join-column-3 c = search needs
 
-add-rows-2 : tie.Need-add-rows-2 Inv-loop μ-loop
-add-rows-2 c = search needs
-
-add-rows-3 : tie.Need-add-rows-3 Inv-loop μ-loop
-add-rows-3 c = search needs
-
-mul-rows-2 : tie.Need-mul-rows-2 Inv-loop μ-loop
-mul-rows-2 c = search needs
-
-element-write-rows : tie.Need-element-write-rows Inv-loop μ-loop
-element-write-rows c = search needs
+join-column-requires : tie.Need-join-column-requires Inv-loop μ-loop
+join-column-requires c κs =
+    let L = c .before .before .loop in
+    let lt = c .before .loop-test .taken in
+    let s = c .before .before .before in
+    (omega (arith, lt), omega (arith, s .pre .0, lt), L .inv .1, s .pre .2 .again (L .q) lt)
 
 add-q : tie.Need-add-q Inv-loop μ-loop
 add-q c = search needs
@@ -47,22 +42,16 @@ loop-less c = search needs
 
 loop-again : tie.Need-loop-again Inv-loop μ-loop
 loop-again c =
-    let s = c .before .before .before in
-    let L = c .before .before .loop in
-    let p = s .args .at + s .args .size + L .q in
-    let from = L .inv .1 .so-far (s .args .at + L .q) (omega (arith, c .before .loop-test .taken)) in
-    let z : p + 1 ≡ s .args .at + s .args .size + (L .q + 1) = omega arith in (
-      search needs,
-      subst (FilledTo _) z
-          (filled-next (L .rows) p _ (omega (arith, s .pre .0, c .before .loop-test .taken)) (L .inv .1)
-          (ap (λ (v : ℕ). bitOr v (s .args .x)) from ∙ sym (s .pre .2 .again (L .q) (c .before .loop-test .taken)))),
-    )
+    let L = c .before .before .before .loop in
+    let s = c .before .before .before .before .args in
+    let z : (s .at + s .size + L .q + 1) * 16 ≡ (s .at + s .size + (L .q + 1)) * 16 = omega arith in
+    (search needs, subst (FilledTo _) z (c .join-column .ensures))
 
 returns : tie.Need-returns Inv-loop μ-loop
 returns c =
     let s = c .before .before .args in
     let L = c .before .loop in
-    let z : s .at + s .size + L .q ≡ s .at + s .size * 2 = omega (arith, L .inv .0, c .loop-test .left) in
+    let z : (s .at + s .size + L .q) * 16 ≡ (s .at + s .size * 2) * 16 = omega (arith, L .inv .0, c .loop-test .left) in
     subst (FilledTo _) z (L .inv .1)
 
 pub double-spec : {M : Type 1} → statement M
@@ -72,13 +61,10 @@ double-spec =
     Inv-loop
     μ-loop
     loop-holds
-    add-rows
-    mul-rows
-    element-copy-out-rows
-    add-rows-2
-    add-rows-3
-    mul-rows-2
-    element-write-rows
+    add-join-column
+    add-join-column-2
+    add-join-column-3
+    join-column-requires
     add-q
     loop-less
     loop-again
