@@ -3,7 +3,6 @@ ghost use mathlib.Core.Path.{_≡_};
 ghost use Prim.Native.Nat.{_+_, _*_, _≤_, _<_};
 ghost use lib.ListN.{length, getD};
 ghost use lib.Signed.{ltZ};
-ghost use Rattle.relation.specs.Sets.{member};
 ghost use Rattle.relation.specs.Comparing.{more, relBy, relFrom};
 ghost use Rattle.relation.proofs.Order.{cmp};
 ghost use Rattle.grid.specs.Accepted.{judgedNumber};
@@ -184,14 +183,6 @@ fn relation_at(placing: &[i32], i: usize, j: usize) -> usize
     )
 }
 
-// Relation r is a member of a set.
-fn has(a: u16, r: usize) -> bool
-    requires { ⌜ r < 13 ⌝ }
-    ensures { λ x. ⌜ x ≡ member r a ⌝ }
-{
-    (a >> r) % 2 == 1
-}
-
 // Some cell of row i has not the relation of its events.
 fn row_missed(g: &[u16], n: usize, placing: &[i32], i: usize) -> bool
     requires { ⌜ (n ≤ 32) × (i < n) × (n * n ≤ length (now g)) × (2 * n ≤ length (now placing)) ⌝ }
@@ -199,7 +190,7 @@ fn row_missed(g: &[u16], n: usize, placing: &[i32], i: usize) -> bool
 {
     let mut j = 0;
     while j < n {
-        if !has(grid::get(g, n, i, j), relation_at(placing, i, j)) {
+        if !relation::has(grid::get(g, n, i, j), relation_at(placing, i, j)) {
             return true;
         }
         j += 1;

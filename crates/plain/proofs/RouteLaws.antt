@@ -2,7 +2,7 @@
 use mathlib.Core.Path.{_≡_, ap, sym, _∙_, subst}
 use mathlib.Core.Logic.{_⊎_, inl, inr}
 use mathlib.Core.List.{List}
-use mathlib.Core.Bool.{Bool, true, false}
+use mathlib.Core.Bool.{Bool, true, false, _||_}
 use Prim.Native.Nat.{ℕ, _+_, _<_}
 use native.Mathlib.Decide.{decLt}
 use native.Mathlib.Omega.{arith}
@@ -12,7 +12,7 @@ use Rattle.relation.specs.Composition.{converse, compose}
 use Rattle.grid.specs.Cells.{cell, putBoth, Held}
 use Rattle.theory.specs.Calculus.{Sub}
 use Rattle.theory.specs.Allen.{allen}
-use Rattle.theory.specs.Sweeps.{Distinct, Progress, DeadEnd, Shrinks, none, value, orb}
+use Rattle.theory.specs.Sweeps.{Distinct, Progress, DeadEnd, Shrinks, none, value}
 use Rattle.theory.proofs.MeetLaws.{and-assoc}
 use Rattle.theory.proofs.AllenLaws.{sized}
 use Rattle.theory.proofs.PlainLaws.{progress-none, progress-one, progress-then}
@@ -35,7 +35,7 @@ module _ (n : ℕ) (r : Swept) (S : ℕ → ℕ → ℕ → Type 0) (g g' : List
 
 -- the next part of a sweep
 module _ (n : ℕ) (g g₁ g₂ : List ℕ) (c d : Bool) (G : Held n g) where
-  pub cell-next : (a b k : ℕ) → Progress allen ones n (CellTo n a b k) g g₁ c → Progress allen ones n (OneRoute n a k b) g₁ g₂ d → Progress allen ones n (CellTo n a b (k + 1)) g g₂ (orb c d)
+  pub cell-next : (a b k : ℕ) → Progress allen ones n (CellTo n a b k) g g₁ c → Progress allen ones n (OneRoute n a k b) g₁ g₂ d → Progress allen ones n (CellTo n a b (k + 1)) g g₂ (c || d)
   cell-next a b k p q = progress-then allen inside ones sized n (G .few) (CellTo n a b k) (OneRoute n a k b) g g₁ g₂ c d (G .fits) p q (CellTo n a b (k + 1)) into
     where
       go : (x y z : ℕ) → CellTo n a b (k + 1) x y z → Dec (y < k) → CellTo n a b k x y z ⊎ OneRoute n a k b x y z
@@ -45,7 +45,7 @@ module _ (n : ℕ) (g g₁ g₂ : List ℕ) (c d : Bool) (G : Held n g) where
       into : (x y z : ℕ) → CellTo n a b (k + 1) x y z → CellTo n a b k x y z ⊎ OneRoute n a k b x y z
       into x y z u = go x y z u (decLt y k)
 
-  pub row-next : (a j : ℕ) → Progress allen ones n (RowTo n a j) g g₁ c → Progress allen ones n (CellTo n a j n) g₁ g₂ d → Progress allen ones n (RowTo n a (j + 1)) g g₂ (orb c d)
+  pub row-next : (a j : ℕ) → Progress allen ones n (RowTo n a j) g g₁ c → Progress allen ones n (CellTo n a j n) g₁ g₂ d → Progress allen ones n (RowTo n a (j + 1)) g g₂ (c || d)
   row-next a j p q = progress-then allen inside ones sized n (G .few) (RowTo n a j) (CellTo n a j n) g g₁ g₂ c d (G .fits) p q (RowTo n a (j + 1)) into
     where
       go : (x y z : ℕ) → RowTo n a (j + 1) x y z → Dec (z < j) → RowTo n a j x y z ⊎ CellTo n a j n x y z
@@ -55,7 +55,7 @@ module _ (n : ℕ) (g g₁ g₂ : List ℕ) (c d : Bool) (G : Held n g) where
       into : (x y z : ℕ) → RowTo n a (j + 1) x y z → RowTo n a j x y z ⊎ CellTo n a j n x y z
       into x y z u = go x y z u (decLt z j)
 
-  pub all-next : (i : ℕ) → Progress allen ones n (AllTo n i) g g₁ c → Progress allen ones n (RowTo n i n) g₁ g₂ d → Progress allen ones n (AllTo n (i + 1)) g g₂ (orb c d)
+  pub all-next : (i : ℕ) → Progress allen ones n (AllTo n i) g g₁ c → Progress allen ones n (RowTo n i n) g₁ g₂ d → Progress allen ones n (AllTo n (i + 1)) g g₂ (c || d)
   all-next i p q = progress-then allen inside ones sized n (G .few) (AllTo n i) (RowTo n i n) g g₁ g₂ c d (G .fits) p q (AllTo n (i + 1)) into
     where
       go : (x y z : ℕ) → AllTo n (i + 1) x y z → Dec (x < i) → AllTo n i x y z ⊎ RowTo n i n x y z

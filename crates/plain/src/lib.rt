@@ -1,10 +1,10 @@
 // Plain closing of a grid: sweeps over all routes until one changes nothing.
 ghost use mathlib.Core.Path.{_≡_};
+ghost use mathlib.Core.Bool.{_||_};
 ghost use Prim.Native.Nat.{_<_};
 ghost use Rattle.relation.specs.HalfRows.{HalfRows};
 ghost use Rattle.grid.specs.Cells.{Held};
 ghost use Rattle.grid.specs.Accepted.{Accepted};
-ghost use Rattle.theory.specs.Sweeps.{orb};
 ghost use Rattle.plain.specs.Answers.{PlainCloses};
 ghost use Rattle.plain.specs.Routes.{OneRoute, CellTo, RowTo, AllTo, Pass, Sweeps};
 use grid::Judged;
@@ -147,7 +147,7 @@ fn cut_by_route(
 }
 
 fn either(a: bool, b: bool) -> bool
-    ensures { λ r. ⌜ r ≡ orb a b ⌝ }
+    ensures { λ r. ⌜ r ≡ (a || b) ⌝ }
 {
     if a { true } else { b }
 }

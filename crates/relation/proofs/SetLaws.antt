@@ -16,7 +16,7 @@ use Rattle.relation.proofs.Tested.{and-left, and-right, and-both, or-ca
 or-bit : (x y : ℕ) → bitOr x y % 2 ≡ max (x % 2) (y % 2)
 or-bit x y = omega (arith, or-step x y)
 
-and-bit : (x y : ℕ) → bitAnd x y % 2 ≡ min (x % 2) (y % 2)
+pub and-bit : (x y : ℕ) → bitAnd x y % 2 ≡ min (x % 2) (y % 2)
 and-bit x y = omega (arith, and-step x y)
 
 or-test : (u v : ℕ) → u < 2 → v < 2 → eqb (max u v) 1 ≡ (eqb u 1 || eqb v 1)

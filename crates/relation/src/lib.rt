@@ -6,6 +6,7 @@ ghost use lib.Count.{trailingZeros};
 ghost use lib.Dec.{eqb};
 ghost use lib.ListN.{length};
 ghost use Rattle.relation.specs.Meaning.{exchanged};
+ghost use Rattle.relation.specs.Sets.{member};
 ghost use Rattle.relation.specs.Typed.{ListsExchanged};
 ghost use Rattle.relation.specs.Composition.{table, entry, converse, composeRow, compose};
 ghost use Rattle.relation.specs.HalfRows.{HalfRows};
@@ -56,6 +57,14 @@ fn exchanged(list: &[u8; 13], r: usize) -> usize
     ensures { λ x. ⌜ x ≡ exchanged r ⌝ }
 {
     list[r] as usize
+}
+
+// Relation r is a member of a set.
+pub fn has(a: u16, r: usize) -> bool
+    requires { ⌜ r < 13 ⌝ }
+    ensures { λ x. ⌜ x ≡ member r a ⌝ }
+{
+    (a >> r) % 2 == 1
 }
 
 // The lowest member of a set that has one.

@@ -3,7 +3,6 @@ ghost use mathlib.Core.Path.{_≡_};
 ghost use Prim.Native.Nat.{_*_, _≤_, _<_};
 ghost use lib.ListN.{length, take};
 ghost use Rattle.relation.specs.HalfRows.{HalfRows};
-ghost use Rattle.relation.specs.Sets.{member};
 ghost use Rattle.grid.specs.Cells.{Held};
 ghost use Rattle.grid.specs.Accepted.{Accepted, judgedNumber};
 ghost use Rattle.theory.specs.Allen.{allen};
@@ -54,14 +53,6 @@ pub struct Stand {
     pub j: usize,
     pub left: usize,
     pub tries: u32,
-}
-
-// Whether relation r is in the set.
-fn is_in(set: u16, r: usize) -> bool
-    requires { ⌜ r < 13 ⌝ }
-    ensures { λ b. ⌜ b ≡ member r set ⌝ }
-{
-    (set >> r) % 2 == 1
 }
 
 // The cell after (i, j), in row order.
@@ -168,7 +159,7 @@ pub fn look(
     let mut used = tries;
     let mut r = 0;
     while r < 13 {
-        if is_in(set, r) {
+        if relation::has(set, r) {
             if used == allowance {
                 return Looked {
                     outcome: Outcome::GaveUp,

@@ -11,10 +11,8 @@ use lib.Dec.{eqb}
 use lib.ListN.{length, take, getD, set, length-append, List·getD-append}
 use lib.Seq.{getD-at, getD-take, take-set-lt}
 use borrow.Author.Tests.{eq-eqb, ne-eqb}
-use Rattle.relation.specs.Meaning.{exchanged}
-use Rattle.relation.specs.Sets.{member, setBelow, setOf, some, unionOver}
 use Rattle.relation.specs.Composition.{converse}
-use Rattle.relation.proofs.ExchangeLaws.{converse-lt, converse-twice}
+use Rattle.relation.proofs.ExchangeLaws.{converse-lt, converse-twice, converse-eq, converse-all}
 use Rattle.grid.specs.Cells.{cell, put, putBoth}
 use Rattle.grid.specs.Accepted.{Accepted}
 use Rattle.grid.proofs.CellLaws.{putBoth-length, cell-both-here, cell-both-mirror, cell-both-other}
@@ -55,14 +53,6 @@ module _ (n i j : ℕ) (hi : i < n) (hj : j < n) where
   start-other : (i ≡ j → ⊥) → cell n (startGrid n) i j ≡ 8191
   start-other e = start-at ∙ rw (ne-eqb i j e)
 
-converse-eq : converse 4096 ≡ 4096
-unfolding converse unionOver setOf setBelow some member exchanged
-converse-eq = refl
-
-converse-any : converse 8191 ≡ 8191
-unfolding converse unionOver setOf setBelow some member exchanged
-converse-any = refl
-
 start-accepted : (n : ℕ) → n ≤ mostEvents → Accepted n (startGrid n)
 start-accepted n h =
     record {
@@ -75,7 +65,7 @@ start-accepted n h =
       diagonal = λ i hi. start-same n i i hi hi refl;
       mirrored = λ i j hi hj. elim (ℕ-discrete i j) [
         | yes e ↦ start-same n j i hj hi (sym e) ∙ sym (ap converse (start-same n i j hi hj e) ∙ converse-eq)
-        | no e ↦ start-other n j i hj hi (λ d. e (sym d)) ∙ sym (ap converse (start-other n i j hi hj e) ∙ converse-any)
+        | no e ↦ start-other n j i hj hi (λ d. e (sym d)) ∙ sym (ap converse (start-other n i j hi hj e) ∙ converse-all)
       ];
     }
 

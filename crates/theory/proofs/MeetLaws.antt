@@ -3,15 +3,13 @@ use mathlib.Core.Path.{_≡_, refl, ap, sym, _∙_}
 use Prim.Native.Nat.{ℕ, _+_, _/_, _%_, _≤_, _<_, min}
 use native.Mathlib.Omega.{arith}
 use native.Mathlib.Decide.{ℕ-discrete}
-use lib.Bits.{bitAnd, and-step, and-zero-r, and-shr, and-mask}
+use lib.Bits.{bitAnd, and-zero-r, and-shr, and-mask}
 use lib.Count.{ones, ones-step, ones-le}
 use lib.Arith.{bin-ind}
+use Rattle.relation.proofs.SetLaws.{and-bit}
 
 and-half : (a b : ℕ) → bitAnd a b / 2 ≡ bitAnd (a / 2) (b / 2)
 and-half a b = and-shr a b 1
-
-and-low : (a b : ℕ) → bitAnd a b % 2 ≡ min (a % 2) (b % 2)
-and-low a b = omega (arith, and-step a b)
 
 halves : (x y : ℕ) → x / 2 ≡ y / 2 → x % 2 ≡ y % 2 → x ≡ y
 halves x y p q = omega arith
@@ -27,7 +25,7 @@ and-assoc a =
         and-half (bitAnd a b) c ∙ ap (λ (x : ℕ). bitAnd x (c / 2)) (and-half a b) ∙ e ∙ ap (bitAnd (a / 2)) (sym (and-half b c)) ∙ sym (and-half a (bitAnd b c))
 
     low : (a b c : ℕ) → bitAnd (bitAnd a b) c % 2 ≡ bitAnd a (bitAnd b c) % 2
-    low a b c = omega (arith, and-low (bitAnd a b) c, and-low a b, and-low a (bitAnd b c), and-low b c)
+    low a b c = omega (arith, and-bit (bitAnd a b) c, and-bit a b, and-bit a (bitAnd b c), and-bit b c)
 
 -- a set inside another has no more members, and as many only where they are one
 ones-sub : (b a : ℕ) → bitAnd a b ≡ a → (ones a ≤ ones b) × (ones a ≡ ones b → a ≡ b)
@@ -38,7 +36,7 @@ ones-sub =
   where
     step : (a b : ℕ) → bitAnd a b ≡ a → (ones (a / 2) ≤ ones (b / 2)) × (ones (a / 2) ≡ ones (b / 2) → a / 2 ≡ b / 2) → (ones a ≤ ones b) × (ones a ≡ ones b → a ≡ b)
     step a b h r =
-        let m : min (a % 2) (b % 2) ≡ a % 2 = sym (and-low a b) ∙ ap (λ (x : ℕ). x % 2) h in
+        let m : min (a % 2) (b % 2) ≡ a % 2 = sym (and-bit a b) ∙ ap (λ (x : ℕ). x % 2) h in
         let le : a % 2 ≤ b % 2 = omega arith in
         let sa : ones a ≡ a % 2 + ones (a / 2) = ones-step a in
         let sb : ones b ≡ b % 2 + ones (b / 2) = ones-step b in (

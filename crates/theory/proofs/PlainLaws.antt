@@ -2,7 +2,7 @@
 use mathlib.Core.Path.{_≡_, refl, sym, _∙_, subst}
 use mathlib.Core.Logic.{_⊎_, inl, inr, ⊎-elim}
 use mathlib.Core.List.{List}
-use mathlib.Core.Bool.{Bool, true, false}
+use mathlib.Core.Bool.{Bool, true, false, _||_}
 use Prim.Native.Nat.{ℕ, _+_, _*_, _/_, _%_, _≤_, _<_}
 use native.Mathlib.Omega.{arith}
 use native.Mathlib.Nat.{le-refl}
@@ -13,7 +13,7 @@ use Rattle.grid.proofs.CellLaws.{putBoth-length}
 use Rattle.theory.specs.Calculus.{Calculus, Sub}
 use Rattle.theory.specs.Closing.{Closing}
 use Rattle.theory.specs.Line.{pairOf, allPairs}
-use Rattle.theory.specs.Sweeps.{Distinct, value, Shrinks, Cuts, none, more, DeadEnd, weight, orb, Progress}
+use Rattle.theory.specs.Sweeps.{Distinct, value, Shrinks, Cuts, none, more, DeadEnd, weight, Progress}
 use Rattle.theory.proofs.ClosingLaws.{IsCut, reached-closed, mirror-cut}
 use Rattle.theory.proofs.KeepLaws.{Good, put-cut, is-cut, good-shrank, good-dead}
 use Rattle.theory.proofs.Lawful.{Lawful, EqLawful}
@@ -82,16 +82,16 @@ module _ (A : Calculus) (inside : (a b : ℕ) → Sub A (A .meet a b) a) (size :
   progress-one S g g' fits s =
       record { cuts = more none s; moved = λ e. shrinks-less g g' fits s; still = λ e. let z : _≡_ {A = ℕ} 0 1 = cc in absurd (omega arith) }
 
-  or-cases : (c d : Bool) → orb c d ≡ true → (c ≡ true) ⊎ (d ≡ true)
+  or-cases : (c d : Bool) → (c || d) ≡ true → (c ≡ true) ⊎ (d ≡ true)
   or-cases true d e = inl refl
   or-cases false d e = inr e
 
-  or-both : (c d : Bool) → orb c d ≡ false → (c ≡ false) × (d ≡ false)
+  or-both : (c d : Bool) → (c || d) ≡ false → (c ≡ false) × (d ≡ false)
   or-both true d e = let z : _≡_ {A = ℕ} 0 1 = cc in absurd (omega arith)
   or-both false d e = (refl, e)
 
   pub progress-then : (S T : ℕ → ℕ → ℕ → Type 0) (g g₁ g₂ : List ℕ) (c d : Bool) → n * n ≤ length g → Progress A size n S g g₁ c → Progress A size n T g₁ g₂ d
-      → (U : ℕ → ℕ → ℕ → Type 0) → ((a m b : ℕ) → U a m b → S a m b ⊎ T a m b) → Progress A size n U g g₂ (orb c d)
+      → (U : ℕ → ℕ → ℕ → Type 0) → ((a m b : ℕ) → U a m b → S a m b ⊎ T a m b) → Progress A size n U g g₂ (c || d)
   progress-then S T g g₁ g₂ c d fits p q U into =
       record {
         cuts = cuts-trans A n g g₁ (p .cuts) (q .cuts);

@@ -55,10 +55,6 @@ sum f (p ∷ ps) = f p + sum f ps
 abbrev pub weight : (ℕ → ℕ) → ℕ → List ℕ → ℕ
 weight size n g = sum (λ p. size (cell n g (p / 32) (p % 32))) (allPairs n)
 
-abbrev pub orb : Bool → Bool → Bool
-orb true b = true
-orb false b = b
-
 -- a part of a sweep: from g to g', over the routes S, with or without a change
 pub record Progress (A : Calculus) (size : ℕ → ℕ) (n : ℕ) (S : ℕ → ℕ → ℕ → Type 0) (g g' : List ℕ) (c : Bool) : Type 0 where
   pub cuts : Cuts A n g g'

@@ -1,5 +1,5 @@
 -- The half doubles with each relation.
-use mathlib.Core.Path.{_≡_, ap, sym, _∙_, subst}
+use mathlib.Core.Path.{_≡_, ap, _∙_, subst}
 use Prim.Native.Nat.{ℕ, _+_, _*_, _-_, _^_, _≤_}
 use lib.Pow.{pow-pos}
 use Rattle.relation.specs.Filling.{FilledTo}

@@ -16,9 +16,9 @@ use Rattle.search.proofs.look.Reads as look
 use Rattle.search.proofs.look.Kinds as look-kinds
 use Rattle.search.proofs.+look.Lts-look as look-lts
 use Rattle.grid.proofs.get.Reads as get-reads
+use Rattle.relation.proofs.has.Reads as has-reads
 use Rattle.search.proofs.after.Reads as after-reads
 use Rattle.search.proofs.attempt_in.Reads as attempt-in-reads
-use Rattle.search.proofs.is_in.Reads as is-in-reads
 use Rattle.search.proofs.pass_decided.Reads as pass-decided-reads
 use Rattle.search.proofs.settled.Reads as settled-reads
 use Rattle.search.proofs.+look.{statement}
@@ -45,8 +45,8 @@ claims t = (
   get-reads.Learnt,
   after-reads.Asked,
   after-reads.Learnt,
-  is-in-reads.Asked,
-  is-in-reads.Learnt,
+  has-reads.Asked,
+  has-reads.Learnt,
   attempt-in-reads.Asked,
   attempt-in-reads.Learnt,
   look-below t,
@@ -95,8 +95,8 @@ look-after-requires t c κs =
 look-loop-holds : (t : ℕ) → look-lts.Need-loop-holds (claims t) (look-at t) look.Post look-Inv-loop look-μ-loop
 look-loop-holds t c = (search needs, c .before .before .before .pass-decided .ensures .stands .within, refl, look-start _ _ _ _ _ _ _ (c .after .ensures .pairs))
 
-look-is-in-requires : (t : ℕ) → look-lts.Need-is-in-requires (claims t) (look-at t) look.Post look-Inv-loop look-μ-loop
-look-is-in-requires t c κs = search needs
+look-has-requires : (t : ℕ) → look-lts.Need-has-requires (claims t) (look-at t) look.Post look-Inv-loop look-μ-loop
+look-has-requires t c κs = search needs
 
 look-same-length-2 : (t : ℕ) → look-lts.Need-same-length-2 (claims t) (look-at t) look.Post look-Inv-loop look-μ-loop
 look-same-length-2 t c = search needs
@@ -104,7 +104,7 @@ look-same-length-2 t c = search needs
 look-returns-2 : (t : ℕ) → look-lts.Need-returns-2 (claims t) (look-at t) look.Post look-Inv-loop look-μ-loop
 look-returns-2 t c =
     let L = c .before .before .before .before .loop in
-    let there = there-is _ _ _ _ _ _ _ _ (c .before .before .before .before .before .before .get .ensures) (c .before .before .is-in .ensures) (c .before .if2 .taken) in
+    let there = there-is _ _ _ _ _ _ _ _ (c .before .before .before .before .before .before .get .ensures) (c .before .before .has .ensures) (c .before .if2 .taken) in
     shows-passed _ _ _ _ _ _ _ _ (c .before .before .before .before .before .before .before .before .pass-decided .ensures)
     (shows-gave-up _ _ _ _ _ _ (sym (L .inv .3) ∙ from-spent _ _ _ _ _ _ _ _ (c .before .before .before .loop-test .taken) there (c .if3 .taken)) (L .inv .2) (L .inv .1))
 
@@ -134,7 +134,7 @@ look-loop-again t c =
     let tried = c .before .before .attempt-in in
     let L = c .before .before .before .before .before .before .before .before .loop in
     let n = c .before .before .before .before .before .before .before .before .before .before .before .before .before .before .args .n in
-    let there = there-is _ _ _ _ _ _ _ _ (c .before .before .before .before .before .before .before .before .before .before .get .ensures) (c .before .before .before .before .before .before .is-in .ensures) (c .before .before .before .before .before .if2 .taken) in (
+    let there = there-is _ _ _ _ _ _ _ _ (c .before .before .before .before .before .before .before .before .before .before .get .ensures) (c .before .before .before .before .before .before .has .ensures) (c .before .before .before .before .before .if2 .taken) in (
       search needs,
       search needs,
       L .inv .2,
@@ -159,7 +159,7 @@ look-look-requires t c κs =
     let P = c .before .before .before .before .before .before .before .before .before .before .before .before .before .before .before .before .pass-decided .ensures in
     let some = c .before .before .before .before .before .before .before .before .before .before .before .before .before .before .before .if1 .left in
     let w = stands-in _ _ _ (P .stands) (omega (arith, some)) in
-    let there = there-is _ _ _ _ _ _ _ _ (c .before .before .before .before .before .before .before .before .before .before .before .before .before .before .get .ensures) (c .before .before .before .before .before .before .before .before .before .before .is-in .ensures) (c .before .before .before .before .before .before .before .before .before .if2 .taken) in
+    let there = there-is _ _ _ _ _ _ _ _ (c .before .before .before .before .before .before .before .before .before .before .before .before .before .before .get .ensures) (c .before .before .before .before .before .before .before .before .before .before .has .ensures) (c .before .before .before .before .before .before .before .before .before .if2 .taken) in
     let long = length-take-le (n * n) (tried .last .1 .1 .0) (omega (arith, tried .kept .1 .1 .0, square _ (s .pre .1 .1 .at .few) .1)) in (
       omega (arith, s .pre .0, some, P .fewer),
       (
@@ -179,7 +179,7 @@ look-same-length-3 t c = c .before .before .look .kept .1 .1 .1 .1 .1 .0 ∙ ap 
 look-returns-3 : (t : ℕ) → look-lts.Need-returns-3 (claims t) (look-at t) look.Post look-Inv-loop look-μ-loop
 look-returns-3 t c =
     let L = c .before .before .before .before .before .before .before .before .before .before .before .before .before .before .before .loop in
-    let there = there-is _ _ _ _ _ _ _ _ (c .before .before .before .before .before .before .before .before .before .before .before .before .before .before .before .before .before .get .ensures) (c .before .before .before .before .before .before .before .before .before .before .before .before .before .is-in .ensures) (c .before .before .before .before .before .before .before .before .before .before .before .before .if2 .taken) in
+    let there = there-is _ _ _ _ _ _ _ _ (c .before .before .before .before .before .before .before .before .before .before .before .before .before .before .before .before .before .get .ensures) (c .before .before .before .before .before .before .before .before .before .before .before .before .before .has .ensures) (c .before .before .before .before .before .before .before .before .before .before .before .before .if2 .taken) in
     shows-passed _ _ _ _ _ _ _ _ (c .before .before .before .before .before .before .before .before .before .before .before .before .before .before .before .before .before .before .before .pass-decided .ensures)
     (turn-kept _ _ _ _ _ _ _ _ _ (c .before .before .before .before .before .before .before .before .before .before .before .before .before .before .loop-test .taken) there (c .before .before .before .before .before .before .before .before .before .before .before .if3 .left) (c .before .before .before .before .before .before .before .before .before .attempt-in .ensures) _ _ _ _ (c .before .before .before .before .before .before .answer .given .1) (c .before .before .look .ensures) (c .match2 .keys2) _ _ (L .inv .3) (L .inv .2))
 
@@ -196,13 +196,13 @@ look-loop-again-2 t c =
     let got = c .before .before .before .before .before .get .ensures in
     ⊎-elim
     (λ w.
-    let turn = turn-none _ _ _ _ _ _ _ _ _ lt (there-is _ _ _ _ _ _ _ _ got (c .before .is-in .ensures) (w .0 .taken)) (w .1 .left) (w .3 .ensures) _ _ _ _ (w .6 .given .1) (w .10 .ensures) (w .13 .given .1) _ (w .15) in
+    let turn = turn-none _ _ _ _ _ _ _ _ _ lt (there-is _ _ _ _ _ _ _ _ got (c .before .has .ensures) (w .0 .taken)) (w .1 .left) (w .3 .ensures) _ _ _ _ (w .6 .given .1) (w .10 .ensures) (w .13 .given .1) _ (w .15) in
     (search needs, omega (arith, w .10 .ensures .within, w .15), w .14 ∙ turn .1 ∙ L .inv .2, sym (turn .0) ∙ L .inv .3))
     (λ w. (
       search needs,
       omega (arith, w .2, L .inv .1),
       w .1 ∙ L .inv .2,
-      sym (from-past _ _ _ _ _ _ _ _ _ lt (there-is _ _ _ _ _ _ _ _ got (c .before .is-in .ensures) (w .0 .left)) (w .2)) ∙ L .inv .3,
+      sym (from-past _ _ _ _ _ _ _ _ _ lt (there-is _ _ _ _ _ _ _ _ got (c .before .has .ensures) (w .0 .left)) (w .2)) ∙ L .inv .3,
     ))
     (c .if2 .came)
 
@@ -228,7 +228,7 @@ pub +look-spec : {M : Type 1} → statement M
     (look-get-requires t)
     (look-after-requires t)
     (look-loop-holds t)
-    (look-is-in-requires t)
+    (look-has-requires t)
     (look-same-length-2 t)
     (look-returns-2 t)
     (look-add-used t)

@@ -1,8 +1,8 @@
 -- The digit of a mark, after a shift.
 use Rattle.relation.specs.Sets.{member}
 use borrow.Author.Needs.{needs}
-use Rattle.placing.proofs.has.Statement.{statement}
-use Rattle.placing.proofs.has.Tie as tie
+use Rattle.relation.proofs.has.Statement.{statement}
+use Rattle.relation.proofs.has.Tie as tie
 
 cast-result : tie.Need-cast-result
 cast-result c = search needs
