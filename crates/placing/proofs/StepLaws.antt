@@ -26,10 +26,10 @@ pub looked-up : (n : ℕ) (g counts belows : List ℕ) → n ≤ 32 → Counts n
 unfolding endsBefore endNumber
 looked-up n g counts belows few C B p h =
     let e = C .each p h in
-    let l : getD counts p 0 ≤ mostEnds = omega (arith, count-le (λ q. before n g q p) (2 * n)) in
+    let l : getD counts p 0 ≤ 2 * n = omega (arith, count-le (λ q. before n g q p) (2 * n)) in
     let b = B .each (getD counts p 0) l in
     record {
-      count-le = l;
+      count-le = omega arith;
       number-le = omega (arith, values-le (λ q. getD counts q 0) (2 * n) (getD counts p 0));
       is =
           b ∙ values-same (2 * n) (λ q. getD counts q 0) (endsBefore n g) (C .each) (getD counts p 0)

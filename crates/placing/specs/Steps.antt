@@ -23,9 +23,9 @@ pub record Counts (n : ℕ) (g counts : List ℕ) : Type 0 where
 abbrev pub mostEnds : ℕ
 mostEnds = 64
 
--- how many different values are below each number, up to as many as there are ends
+-- how many different values are below each number, up to as many as there are counts
 pub record Belows (m : ℕ) (counts belows : List ℕ) : Type 0 where
-  pub each : (v : ℕ) → v ≤ mostEnds → getD belows v 0 ≡ valuesBelow (λ p. getD counts p 0) m v
+  pub each : (v : ℕ) → v ≤ m → getD belows v 0 ≡ valuesBelow (λ p. getD counts p 0) m v
 
 -- the numbers of the 2 * n ends
 pub record Numbers (n : ℕ) (g : List ℕ) (xs : List ℤ) : Type 0 where

@@ -9,7 +9,7 @@ ghost use Rattle.grid.specs.Accepted.{judgedNumber};
 ghost use Rattle.placing.specs.Placing.{at, naturalOf};
 ghost use Rattle.placing.specs.Checking.{lengthRefusal, someLate, restRefusal, checkRefusal, CheckSays};
 ghost use Rattle.placing.specs.Settling.{earlier, before, endsBefore, isValue, relationAt, rowMissed, someMissed, Settled};
-ghost use Rattle.placing.specs.Steps.{orderOf, Counts, Belows, Numbers, Copied};
+ghost use Rattle.placing.specs.Steps.{orderOf, mostEnds, Counts, Belows, Numbers, Copied};
 use grid::EVENTS;
 use grid::Judged;
 use refusal::Refusal;
@@ -274,14 +274,14 @@ fn is_value(counts: &[usize], m: usize, v: usize) -> bool
     false
 }
 
-// How many different counts are below each number.
+// How many different counts are below each number up to m.
 fn values_below(counts: &[usize], m: usize) -> [usize; ENDS + 1]
-    requires { ⌜ m ≤ length (now counts) ⌝ }
+    requires { ⌜ (m ≤ length (now counts)) × (m ≤ mostEnds) ⌝ }
     ensures { λ belows. ⌜ Belows m (now (counts .entry)) belows ⌝ }
 {
     let mut belows = [0usize; ENDS + 1];
     let mut v = 0;
-    while v < ENDS {
+    while v < m {
         let here = belows[v];
         belows[v + 1] = if is_value(counts, m, v) {
             here + 1

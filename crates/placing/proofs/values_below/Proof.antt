@@ -18,10 +18,10 @@ first : (f : ℕ → ℕ) (l : List ℕ) → getD l 0 0 ≡ f 0 → Filled f l 1
 first f l e k h = let z : k ≡ 0 = omega arith in ap (λ (j : ℕ). getD l j 0) z ∙ e ∙ ap f (sym z)
 
 abbrev Inv-loop : tie.InvT-loop
-Inv-loop counts m belows₀ v₀ belows v = (length belows ≡ mostEnds + 1) × (v ≤ mostEnds) × Filled (valuesBelow (λ p. getD counts p 0) m) belows (v + 1)
+Inv-loop counts m belows₀ v₀ belows v = (length belows ≡ mostEnds + 1) × (v ≤ m) × Filled (valuesBelow (λ p. getD counts p 0) m) belows (v + 1)
 
 abbrev μ-loop : tie.MeasureT-loop
-μ-loop counts m belows₀ v₀ belows v = mostEnds - v
+μ-loop counts m belows₀ v₀ belows v = m - v
 
 loop-holds : tie.Need-loop-holds Inv-loop μ-loop
 loop-holds c =
