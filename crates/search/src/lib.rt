@@ -84,16 +84,16 @@ fn step(n: usize, at: Stand) -> Stand
 }
 
 // Passes over the cells that have one relation alone, each for one try: on a closed grid such a try cuts nothing.
-fn pass_decided(work: &[u16], n: usize, from: Stand, allowance: u32) -> Stand
-    requires { ⌜ Stands n allowance from × Searched n (now work) ⌝ }
-    ensures { λ s. ⌜ Passes n allowance (now (work .entry)) from s ⌝ }
+fn pass_decided(g: &[u16], n: usize, from: Stand, allowance: u32) -> Stand
+    requires { ⌜ Stands n allowance from × Searched n (now g) ⌝ }
+    ensures { λ s. ⌜ Passes n allowance (now (g .entry)) from s ⌝ }
 {
     let mut at = from;
     while 0 < at.left {
         if at.tries == allowance {
             return at;
         }
-        let set = grid::get(work, n, at.i, at.j);
+        let set = grid::get(g, n, at.i, at.j);
         if relation::without_lowest(set) != 0 {
             return at;
         }
@@ -167,7 +167,7 @@ pub fn look(
                 };
             }
             used += 1;
-            let mut work = [UNFILLED; 1024];
+            let mut work = [0u16; 1024];
             let answer = attempt_in(rows, g, &mut work, n, i, j, r);
             let End::Closed(_takes) = answer else {
                 r += 1;

@@ -7,10 +7,10 @@ use Rattle.search.proofs.pass_decided.Statement.{statement}
 use Rattle.search.proofs.pass_decided.Tie as tie
 
 abbrev Inv-loop : tie.InvT-loop
-Inv-loop work n allowance at₀ at = Passes n allowance work at₀ at
+Inv-loop g n allowance at₀ at = Passes n allowance g at₀ at
 
 abbrev μ-loop : tie.MeasureT-loop
-μ-loop work n allowance at₀ at = at .left
+μ-loop g n allowance at₀ at = at .left
 
 loop-holds : tie.Need-loop-holds Inv-loop μ-loop
 loop-holds c = record { stands = c .before .pre .0; fewer = omega arith; same = refl }
