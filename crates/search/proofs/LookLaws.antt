@@ -1,5 +1,5 @@
 -- What the code sees at one cell, as steps of the rule. Assumes nothing.
-use mathlib.Core.Path.{_≡_, refl, sym, ap, subst, _∙_}
+use mathlib.Core.Path.{_≡_, refl, sym, ap, ap₂, subst, _∙_}
 use mathlib.Core.Bool.{Bool, true, false}
 use mathlib.Core.Logic.{⊎-elim}
 use mathlib.Core.List.{List, [], _∷_}
@@ -25,13 +25,13 @@ use Rattle.takes.specs.declared.End.the-variants.{Contradiction, Closed, Paused
 use Rattle.takes.proofs.End.{the-type as end-type}
 use Rattle.search.specs.Rule.{thereAt, triedBy, tryAt, searchAt}
 use Rattle.search.specs.Answers.{saidBy, roomBy}
-use Rattle.search.specs.Steps.{saidWith, Shows, Settles, Searched, AtCell, Stands, Steps, Passes, goesOn}
+use Rattle.search.specs.Steps.{saidWith, Shows, Settles, Searched, AtCell, Stands, Steps, Passes, goesOn, after}
 use Rattle.search.specs.declared.Looked.{Looked}
 use Rattle.search.specs.declared.Stand.{Stand}
 use Rattle.search.specs.declared.Outcome.{Outcome}
 use Rattle.search.specs.declared.Outcome.the-variants.{Placed, None, GaveUp}
 use Rattle.search.proofs.Outcome.{the-type as outcome-type}
-use Rattle.search.proofs.RuleLaws.{from, from-closed, from-emptied, from-alone, at-next}
+use Rattle.search.proofs.RuleLaws.{from, from-closed, from-emptied, from-alone, at-next, after-next}
 use Rattle.search.proofs.TryRight.{searched-whole, whole-searched, try-same, try-whole}
 
 -- ---- the cell that is read
@@ -119,13 +119,16 @@ module _ (n a : ℕ) (ps : List Pair) (p : Pair) (g g' : List ℕ) (r t : ℕ) (
 
 -- ---- the answers at one cell
 
-pub shows-gave-up : (n a t : ℕ) (e : Found) (room room' : List ℤ) → e ≡ gaveUp t → room' ≡ room → t ≤ a → Shows n a e room (record { outcome = GaveUp; tries = t }) room'
-shows-gave-up n a t e room room' q k h =
-    record { answer = sym (ap saidBy q); room-after = k ∙ sym (ap (λ (x : Found). roomBy n x room) q); within = h }
+module _ (n a t : ℕ) (e : Found) (room room' : List ℤ) (l : Looked) (kept : room' ≡ room) (within : t ≤ a) (tries : l .tries ≡ t) where
+  pub shows-gave-up : e ≡ gaveUp t → l .outcome ≡ GaveUp → Shows n a e room l room'
+  shows-gave-up q o =
+      record { answer = ap₂ saidWith o tries ∙ sym (ap saidBy q); room-after = kept ∙ sym (ap (λ (x : Found). roomBy n x room) q); within = omega arith }
 
-pub shows-none : (n a t : ℕ) (e : Found) (room room' : List ℤ) → e ≡ none t → room' ≡ room → t ≤ a → Shows n a e room (record { outcome = None; tries = t }) room'
-shows-none n a t e room room' q k h =
-    record { answer = sym (ap saidBy q); room-after = k ∙ sym (ap (λ (x : Found). roomBy n x room) q); within = h }
+  pub shows-none : e ≡ none t → l .outcome ≡ None → Shows n a e room l room'
+  shows-none q o =
+      record { answer = ap₂ saidWith o tries ∙ sym (ap saidBy q); room-after = kept ∙ sym (ap (λ (x : Found). roomBy n x room) q); within = omega arith }
+
+-- ---- from one stand to another
 
 -- what is shown from a stand that was passed to is shown from the one before
 pub shows-passed : (n a : ℕ) (g : List ℕ) (from s : Stand) (room room' : List ℤ) (l : Looked) → Passes n a g from s → Shows n a (goesOn n a g s) room l room'
@@ -150,9 +153,23 @@ cell-some n g S i j hi hj set is = go (ℕ-discrete set 0)
     go (yes z) = absurd (S .full i j hi hj (sym is ∙ z))
     go (no nz) = omega arith
 
+-- one cell further
+module _ (n : ℕ) (at s : Stand) (t : ℕ) (steps : Steps n at t s) where
+  pub goes-on-next : (a : ℕ) (g : List ℕ) → goesOn n a g s ≡ searchAt n a (pairsFrom n (after n (at .i) (at .j) .0) (after n (at .i) (at .j) .1)) g t
+  goes-on-next a g = rw (steps .i, steps .j, steps .tries)
+
+  pub shows-next : (a : ℕ) (g : List ℕ) (room room' : List ℤ) (l : Looked) → Shows n a (goesOn n a g s) room l room'
+      → Shows n a (searchAt n a (pairsFrom n (after n (at .i) (at .j) .0) (after n (at .i) (at .j) .1)) g t) room l room'
+  shows-next a g room room' l w = subst (λ (e : Found). Shows n a e room l room') (goes-on-next a g) w
+
+  pub step-at : AtCell n (at .i) (at .j) (at .left) → at .j < n → AtCell n (s .i) (s .j) (s .left)
+  step-at w h =
+      rw (steps .i, steps .j, steps .left)
+      (at-next n (at .i) (at .j) (at .left) (after n (at .i) (at .j) .0) (after n (at .i) (at .j) .1) w (after-next n (at .i) (at .j) (w .upper) h))
+
 -- ---- cells that have one relation alone
 
-module _ (n a : ℕ) (g : List ℕ) (S : Searched n g) (at s : Stand) (stands : Stands n a at) (more : 0 < at .left) (fresh : at .tries ≡ a → ⊥) (steps : Steps n at s) (set : ℕ) (is : set ≡ cell n g (at .i) (at .j)) (alone : set - 2 ^ trailingZeros 16 set ≡ 0) where
+module _ (n a : ℕ) (g : List ℕ) (S : Searched n g) (at s : Stand) (stands : Stands n a at) (more : 0 < at .left) (fresh : at .tries ≡ a → ⊥) (steps : Steps n at (at .tries + 1) s) (set : ℕ) (is : set ≡ cell n g (at .i) (at .j)) (alone : set - 2 ^ trailingZeros 16 set ≡ 0) where
   abbrev r : ℕ
   r = trailingZeros 16 set
 
@@ -176,16 +193,19 @@ module _ (n a : ℕ) (g : List ℕ) (S : Searched n g) (at s : Stand) (stands : 
   unfolding thereAt
   there = ap (member r) (sym is) ∙ lowest .is-in
 
+  abbrev next : List Pair
+  next = pairsFrom n (after n (at .i) (at .j) .0) (after n (at .i) (at .j) .1)
+
   pub alone-goes-on : goesOn n a g s ≡ goesOn n a g at
   alone-goes-on =
-      ap (λ (t : ℕ). searchAt n a (pairsFrom n (s .i) (s .j)) g t) (steps .tries)
-      ∙ sym (from-alone (thereAt n) (tryAt n) a (searchAt n a (pairsFrom n (s .i) (s .j))) (at .i, at .j) g r (at .tries) (lowest .small) there others fresh
+      goes-on-next n at s (at .tries + 1) steps a g
+      ∙ sym (from-alone (thereAt n) (tryAt n) a (searchAt n a next) (at .i, at .j) g r (at .tries) (lowest .small) there others fresh
       (try-same n (at .i) (at .j) r g S (in-grid .0) (in-grid .1) (in-grid .2) mark))
-      ∙ look-start n a (at .i) (at .j) (at .tries) g (pairsFrom n (s .i) (s .j)) (steps .next .pairs)
+      ∙ look-start n a (at .i) (at .j) (at .tries) g next (after-next n (at .i) (at .j) (stands .at .upper) (in-grid .1) .pairs)
 
   pub alone-stands : Stands n a s
   alone-stands =
       record {
-        at = subst (AtCell n (s .i) (s .j)) (sym (steps .left)) (at-next n (at .i) (at .j) (at .left) (s .i) (s .j) (stands .at) (steps .next));
+        at = step-at n at s (at .tries + 1) steps (stands .at) (in-grid .1);
         within = omega (arith, steps .tries, tries-left (at .tries) a (stands .within) fresh);
       }

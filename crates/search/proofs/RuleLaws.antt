@@ -1,12 +1,13 @@
 -- The cells in order, and how the search goes on from one relation to the next. Assumes nothing.
-use mathlib.Core.Path.{_≡_, refl, sym, ap, subst, _∙_}
+use mathlib.Core.Path.{_≡_, refl, sym, ap, ap₂, subst, _∙_}
 use mathlib.Core.Bool.{Bool, true, false}
 use mathlib.Core.Logic.{⊎-elim}
 use mathlib.Core.List.{List, [], _∷_, _++_}
 use Prim.Native.Nat.{ℕ, zero, suc, _+_, _-_, _*_, _/_, _^_, _≤_, _<_}
 use native.Mathlib.Nat.{mul-le-mul, eq-or-lt-of-le, le-mul-of-pos-right, zero-lt-suc}
 use native.Mathlib.Omega.{arith}
-use borrow.Author.Tests.{eq-eqb, ne-eqb}
+use native.Mathlib.Decide.{decLt}
+use borrow.Author.Tests.{eq-eqb, ne-eqb, lt-ltb, le-ltb}
 use lib.Dec.{T, eqb, eqb→eq}
 use lib.IntN.{ℤ}
 use lib.ListN.{length}
@@ -19,7 +20,8 @@ use Rattle.theory.specs.Quick.{Ended, run}
 use Rattle.theory.specs.Search.{Pair, Tried, emptied, closed, Found, placed, none, gaveUp, orNext, turnOf, relationsFrom, row, rows, pairsFrom}
 use Rattle.placing.specs.Settling.{settles, Settled}
 use Rattle.search.specs.Rule.{enough, triedBy, tryAt}
-use Rattle.search.specs.Steps.{Settles, AtCell, Next}
+use Rattle.search.specs.Steps.{saidWith, Settles, AtCell, after}
+use Rattle.search.specs.declared.Looked.{Looked}
 use Rattle.search.specs.declared.Outcome.the-variants.{Placed, None}
 
 -- ---- the cells in order
@@ -50,10 +52,16 @@ no-pairs n i j h k =
     let b : n - (i + 2) ≡ zero = omega arith in
     rw (a, b)
 
-pub next-along : (n i j : ℕ) → i < j → j + 1 < n → Next n i j i (j + 1)
+-- (i', j') is the cell after (i, j)
+pub record Next (n i j i' j' : ℕ) : Type 0 where
+  pub upper : i' < j'
+  pub pairs : pairsFrom n i j ≡ (i, j) ∷ pairsFrom n i' j'
+  pub more : 0 < length (pairsFrom n i' j') → j' < n
+
+next-along : (n i j : ℕ) → i < j → j + 1 < n → Next n i j i (j + 1)
 next-along n i j a b = record { upper = omega arith; pairs = pairs-along n i j b; more = λ m. b }
 
-pub next-down : (n i j : ℕ) → i < j → j < n → n ≤ j + 1 → Next n i j (i + 1) (i + 2)
+next-down : (n i j : ℕ) → i < j → j < n → n ≤ j + 1 → Next n i j (i + 1) (i + 2)
 next-down n i j a b d =
     record {
       upper = omega arith;
@@ -63,6 +71,13 @@ next-down n i j a b d =
           (λ e. let z : 0 < 0 = subst (λ (l : List Pair). 0 < length l) (no-pairs n (i + 1) (i + 2) (omega arith) (omega arith)) m in absurd (omega arith))
           (λ l. l) (eq-or-lt-of-le {n = i + 2} {m = n} (omega arith));
     }
+
+pub after-next : (n i j : ℕ) → i < j → j < n → Next n i j (after n i j .0) (after n i j .1)
+after-next n i j a b = go (decLt (j + 1) n)
+  where
+    go : Dec (j + 1 < n) → Next n i j (after n i j .0) (after n i j .1)
+    go (yes l) = rw (lt-ltb (j + 1) n l) (next-along n i j a l)
+    go (no l) = rw (le-ltb (j + 1) n (omega arith)) (next-down n i j a b (omega arith))
 
 pub at-next : (n i j left i' j' : ℕ) → AtCell n i j left → Next n i j i' j' → AtCell n i' j' (left - 1)
 at-next n i j left i' j' a x =
@@ -111,16 +126,16 @@ try-is n i j r v p g h q e a b c d f =
 
 -- ---- past the last cell
 
-module _ (n t : ℕ) (g : List ℕ) (room after : List ℤ) (b : Bool) (s : Settled n g room after b) where
-  pub settles-placed : b ≡ true → Settles n t g room (record { outcome = Placed; tries = t }) after
-  settles-placed e =
+module _ (n t : ℕ) (g : List ℕ) (room end : List ℤ) (b : Bool) (l : Looked) (s : Settled n g room end b) where
+  pub settles-placed : b ≡ true → l .outcome ≡ Placed → l .tries ≡ t → Settles n t g room l end
+  settles-placed e o q =
       let y : settles n g ≡ true = sym (s .answer) ∙ e in
-      record { answer = simp y; room-after = s .room-after ∙ simp y; tries = refl }
+      record { answer = ap₂ saidWith o q ∙ simp y; room-after = s .room-after ∙ simp y; tries = q }
 
-  pub settles-none : b ≡ false → Settles n t g room (record { outcome = None; tries = t }) after
-  settles-none e =
+  pub settles-none : b ≡ false → l .outcome ≡ None → l .tries ≡ t → Settles n t g room l end
+  settles-none e o q =
       let y : settles n g ≡ false = sym (s .answer) ∙ e in
-      record { answer = simp y; room-after = s .room-after ∙ simp y; tries = refl }
+      record { answer = ap₂ saidWith o q ∙ simp y; room-after = s .room-after ∙ simp y; tries = q }
 
 -- ---- the relations of one cell: what is left, from here, is the whole
 

@@ -1,14 +1,16 @@
 -- The search from one cell on, and where the code stands. Inner functions cite this; the public statement does not. Assumes nothing.
 use mathlib.Core.Path.{_≡_}
-use mathlib.Core.List.{List, _∷_}
+use mathlib.Core.Bool.{cond}
+use mathlib.Core.List.{List}
 use Prim.Native.Nat.{ℕ, _+_, _-_, _≤_, _<_}
+use lib.Dec.{ltb}
 use lib.IntN.{ℤ}
 use lib.ListN.{length}
 use Rattle.grid.specs.Cells.{cell}
 use Rattle.grid.specs.Accepted.{Accepted}
 use Rattle.theory.specs.Allen.{allen}
 use Rattle.theory.specs.Closing.{Closed}
-use Rattle.theory.specs.Search.{Found, pastLast, pairsFrom}
+use Rattle.theory.specs.Search.{Pair, Found, pastLast, pairsFrom}
 use Rattle.placing.specs.Settling.{settles}
 use Rattle.search.specs.Rule.{searchAt}
 use Rattle.search.specs.Answers.{Said, saidPlaced, saidNone, saidGaveUp, saidOf, saidBy, roomBy}
@@ -53,11 +55,9 @@ pub record AtCell (n i j left : ℕ) : Type 0 where
   pub count : length (pairsFrom n i j) ≡ left
   pub more : 0 < left → j < n
 
--- the cell after (i, j)
-pub record Next (n i j i' j' : ℕ) : Type 0 where
-  pub upper : i' < j'
-  pub pairs : pairsFrom n i j ≡ (i, j) ∷ pairsFrom n i' j'
-  pub more : 0 < length (pairsFrom n i' j') → j' < n
+-- the cell after (i, j), in row order
+abbrev pub after : ℕ → ℕ → ℕ → Pair
+after n i j = cond (ltb (j + 1) n) (i, j + 1) (i + 1, i + 2)
 
 -- the code stands at a cell, or past the last
 pub record Stands (n allowance : ℕ) (s : Stand) : Type 0 where
@@ -68,11 +68,12 @@ pub record Stands (n allowance : ℕ) (s : Stand) : Type 0 where
 abbrev pub goesOn : ℕ → ℕ → List ℕ → Stand → Found
 goesOn n allowance g s = searchAt n allowance (pairsFrom n (s .i) (s .j)) g (s .tries)
 
--- one cell further, one try later
-pub record Steps (n : ℕ) (at s : Stand) : Type 0 where
-  pub next : Next n (at .i) (at .j) (s .i) (s .j)
+-- one cell further, with t tries made
+pub record Steps (n : ℕ) (at : Stand) (t : ℕ) (s : Stand) : Type 0 where
+  pub i : s .i ≡ after n (at .i) (at .j) .0
+  pub j : s .j ≡ after n (at .i) (at .j) .1
   pub left : s .left ≡ at .left - 1
-  pub tries : s .tries ≡ at .tries + 1
+  pub tries : s .tries ≡ t
 
 -- no further back, and what the search comes to is the same
 pub record Passes (n allowance : ℕ) (g : List ℕ) (from s : Stand) : Type 0 where

@@ -11,7 +11,7 @@ ghost use Rattle.theory.specs.Quick.{run};
 ghost use Rattle.takes.specs.Steps.{ended};
 ghost use Rattle.search.specs.Rule.{enough, triedBy, tryAt, searchOf};
 ghost use Rattle.search.specs.Answers.{saidOf, searchRefusal, Looks};
-ghost use Rattle.search.specs.Steps.{saidWith, Shows, Settles, Answers, Searched, Stands, Steps, Passes, goesOn, Next};
+ghost use Rattle.search.specs.Steps.{saidWith, Shows, Settles, Answers, Searched, Stands, Steps, Passes, goesOn, after};
 use grid::Judged;
 use refusal::Refusal;
 use relation::HALF_ROWS;
@@ -55,10 +55,17 @@ pub struct Stand {
     pub tries: u32,
 }
 
+// What the cells from one on came to, with the tries made.
+fn came_to(outcome: Outcome, tries: u32) -> Looked
+    ensures { λ l. ⌜ (l .outcome ≡ outcome) × (l .tries ≡ tries) ⌝ }
+{
+    Looked { outcome, tries }
+}
+
 // The cell after (i, j), in row order.
 fn after(n: usize, i: usize, j: usize) -> Cell
     requires { ⌜ (n ≤ 32) × (i < j) × (j < n) ⌝ }
-    ensures { λ c. ⌜ Next n i j (c .i) (c .j) ⌝ }
+    ensures { λ c. ⌜ (c .i ≡ after n i j .0) × (c .j ≡ after n i j .1) ⌝ }
 {
     if j + 1 < n {
         Cell { i, j: j + 1 }
@@ -67,14 +74,13 @@ fn after(n: usize, i: usize, j: usize) -> Cell
     }
 }
 
-// The next cell, one try later.
-fn step(n: usize, at: Stand) -> Stand
-    requires { ⌜ (n ≤ 32) × (at .i < at .j) × (at .j < n) × (0 < at .left) × (at .tries < 4294967295) ⌝ }
-    ensures { λ s. ⌜ Steps n at s ⌝ }
+// The next cell, with so many tries made.
+fn step(n: usize, at: Stand, tries: u32) -> Stand
+    requires { ⌜ (n ≤ 32) × (at .i < at .j) × (at .j < n) × (0 < at .left) ⌝ }
+    ensures { λ s. ⌜ Steps n at tries s ⌝ }
 {
     let next = after(n, at.i, at.j);
     let left = at.left - 1;
-    let tries = at.tries + 1;
     Stand {
         i: next.i,
         j: next.j,
@@ -97,7 +103,7 @@ fn pass_decided(g: &[u16], n: usize, from: Stand, allowance: u32) -> Stand
         if relation::without_lowest(set) != 0 {
             return at;
         }
-        at = step(n, at);
+        at = step(n, at, at.tries + 1);
     }
     at
 }
@@ -146,56 +152,35 @@ pub fn look(
     ensures { λ l. ⌜ Shows n allowance (goesOn n allowance (now (g .entry)) from) (now (room .entry)) l (now (room .exit)) ⌝ }
 {
     let at = pass_decided(g, n, from, allowance);
-    let left = at.left;
-    let tries = at.tries;
-    if left == 0 {
-        return settled(g, n, tries, room);
+    if at.left == 0 {
+        return settled(g, n, at.tries, room);
     }
-    let i = at.i;
-    let j = at.j;
     let cells = n * n;
-    let set = grid::get(g, n, i, j);
-    let next = after(n, i, j);
-    let mut used = tries;
+    let mut used = at.tries;
     let mut r = 0;
     while r < 13 {
-        if relation::has(set, r) {
+        if relation::has(grid::get(g, n, at.i, at.j), r) {
             if used == allowance {
-                return Looked {
-                    outcome: Outcome::GaveUp,
-                    tries: used,
-                };
+                return came_to(Outcome::GaveUp, used);
             }
             used += 1;
             let mut work = [0u16; 1024];
-            let answer = attempt_in(rows, g, &mut work, n, i, j, r);
+            let answer = attempt_in(rows, g, &mut work, n, at.i, at.j, r);
             let End::Closed(_takes) = answer else {
                 r += 1;
                 continue;
             };
-            let stand = Stand {
-                i: next.i,
-                j: next.j,
-                left: left - 1,
-                tries: used,
-            };
+            let stand = step(n, at, used);
             let below = look(rows, n, stand, &work[..cells], allowance, room);
             let said = below.outcome;
-            match said {
-                Outcome::None => {
-                    used = below.tries;
-                }
-                _ => {
-                    return below;
-                }
-            }
+            let Outcome::None = said else {
+                return below;
+            };
+            used = below.tries;
         }
         r += 1;
     }
-    Looked {
-        outcome: Outcome::None,
-        tries: used,
-    }
+    came_to(Outcome::None, used)
 }
 
 // Past the last cell: the placing without gaps of the decided grid, if it meets every cell.
@@ -204,15 +189,9 @@ fn settled(g: &[u16], n: usize, tries: u32, room: &mut [i32]) -> Looked
     ensures { λ l. ⌜ Settles n tries (now (g .entry)) (now (room .entry)) l (now (room .exit)) ⌝ }
 {
     if placing::settle(g, n, room) {
-        Looked {
-            outcome: Outcome::Placed,
-            tries,
-        }
+        came_to(Outcome::Placed, tries)
     } else {
-        Looked {
-            outcome: Outcome::None,
-            tries,
-        }
+        came_to(Outcome::None, tries)
     }
 }
 

@@ -8,8 +8,9 @@ use lib.ListN.{length, take}
 use lib.Seq.{length-take-le}
 use Rattle.theory.specs.Search.{pairsFrom}
 use Rattle.search.specs.Rule.{thereAt, tryAt, searchAt}
-use Rattle.search.proofs.RuleLaws.{from, from-end, from-spent, from-past, at-next, square}
-use Rattle.search.proofs.LookLaws.{there-is, next-searched, look-start, look-end, turn-emptied, turn-none, turn-kept, shows-gave-up, shows-none, shows-passed, tries-left, stands-in}
+use Rattle.search.specs.Steps.{after}
+use Rattle.search.proofs.RuleLaws.{from, from-end, from-spent, from-past, after-next, square}
+use Rattle.search.proofs.LookLaws.{there-is, next-searched, look-start, look-end, turn-emptied, turn-none, turn-kept, shows-gave-up, shows-none, shows-passed, shows-next, step-at, tries-left, stands-in}
 use borrow.Fn.Kinds.{In}
 use borrow.Fn.PlainCycle.{Measures, is, falls, and}
 use Rattle.search.proofs.look.Reads as look
@@ -17,10 +18,11 @@ use Rattle.search.proofs.look.Kinds as look-kinds
 use Rattle.search.proofs.+look.Lts-look as look-lts
 use Rattle.grid.proofs.get.Reads as get-reads
 use Rattle.relation.proofs.has.Reads as has-reads
-use Rattle.search.proofs.after.Reads as after-reads
 use Rattle.search.proofs.attempt_in.Reads as attempt-in-reads
+use Rattle.search.proofs.came_to.Reads as came-to-reads
 use Rattle.search.proofs.pass_decided.Reads as pass-decided-reads
 use Rattle.search.proofs.settled.Reads as settled-reads
+use Rattle.search.proofs.step.Reads as step-reads
 use Rattle.search.proofs.+look.{statement}
 use Rattle.search.proofs.+look.Tie.{close}
 
@@ -43,30 +45,33 @@ claims t = (
   settled-reads.Learnt,
   get-reads.Asked,
   get-reads.Learnt,
-  after-reads.Asked,
-  after-reads.Learnt,
   has-reads.Asked,
   has-reads.Learnt,
+  came-to-reads.Asked,
+  came-to-reads.Learnt,
   attempt-in-reads.Asked,
   attempt-in-reads.Learnt,
+  step-reads.Asked,
+  step-reads.Learnt,
   look-below t,
   look.Post,
 )
 
 abbrev look-Inv-loop : look-lts.InvT-loop
-look-Inv-loop rows n g allowance room₀ left tries i j cells set next used₀ r₀ room used r =
+look-Inv-loop rows n g allowance room₀ at cells used₀ r₀ room used r =
     (r ≤ 13) × (used ≤ allowance) × (room ≡ room₀)
-    × (from (thereAt n) (tryAt n) allowance (searchAt n allowance (pairsFrom n (next .i) (next .j))) (i, j) g r used ≡ searchAt n allowance (pairsFrom n i j) g tries)
+    × (from (thereAt n) (tryAt n) allowance (searchAt n allowance (pairsFrom n (after n (at .i) (at .j) .0) (after n (at .i) (at .j) .1))) (at .i, at .j) g r used
+    ≡ searchAt n allowance (pairsFrom n (at .i) (at .j)) g (at .tries))
 
 abbrev look-μ-loop : look-lts.MeasureT-loop
-look-μ-loop rows n g allowance room₀ left tries i j cells set next used₀ r₀ room used r = 13 - r
+look-μ-loop rows n g allowance room₀ at cells used₀ r₀ room used r = 13 - r
 
 look-pass-decided-requires : (t : ℕ) → look-lts.Need-pass-decided-requires (claims t) (look-at t) look.Post look-Inv-loop look-μ-loop
 look-pass-decided-requires t c κs = let s = c .before .pre .1 in (s .1, s .2)
 
 look-settled-requires : (t : ℕ) → look-lts.Need-settled-requires (claims t) (look-at t) look.Post look-Inv-loop look-μ-loop
 look-settled-requires t c κs =
-    let s = c .before .before .before .before .pre .1 in
+    let s = c .before .before .before .before .before .pre .1 in
     (s .1 .at .few, s .2 .accepted .long, s .3)
 
 look-same-length : (t : ℕ) → look-lts.Need-same-length (claims t) (look-at t) look.Post look-Inv-loop look-μ-loop
@@ -74,39 +79,39 @@ look-same-length t c = search needs
 
 look-returns : (t : ℕ) → look-lts.Need-returns (claims t) (look-at t) look.Post look-Inv-loop look-μ-loop
 look-returns t c =
-    let P = c .before .before .before .before .pass-decided .ensures in
+    let P = c .before .before .before .before .before .pass-decided .ensures in
     shows-passed _ _ _ _ _ _ _ _ P (look-end _ _ _ _ _ _ _ _ (P .stands .at .count ∙ c .before .before .before .if1 .taken) (P .stands .within) (c .before .settled .ensures))
 
 look-mul-cells : (t : ℕ) → look-lts.Need-mul-cells (claims t) (look-at t) look.Post look-Inv-loop look-μ-loop
-look-mul-cells t c = omega (arith, square _ (c .before .before .before .pre .1 .1 .at .few) .1)
+look-mul-cells t c = omega (arith, square _ (c .before .before .before .before .pre .1 .1 .at .few) .1)
+
+look-loop-holds : (t : ℕ) → look-lts.Need-loop-holds (claims t) (look-at t) look.Post look-Inv-loop look-μ-loop
+look-loop-holds t c =
+    let P = c .before .before .pass-decided .ensures .stands in
+    let w = stands-in _ _ _ P (omega (arith, c .if1 .left)) in
+    (search needs, P .within, refl, look-start _ _ _ _ _ _ _ (after-next _ _ _ (P .at .upper) (w .1) .pairs))
 
 look-get-requires : (t : ℕ) → look-lts.Need-get-requires (claims t) (look-at t) look.Post look-Inv-loop look-μ-loop
 look-get-requires t c κs =
-    let s = c .before .before .before .pre .1 in
-    let w = stands-in _ _ _ (c .before .pass-decided .ensures .stands) (omega (arith, c .if1 .left)) in
+    let s = c .before .before .before .before .before .before .pre .1 in
+    let w = stands-in _ _ _ (c .before .before .before .before .pass-decided .ensures .stands) (omega (arith, c .before .before .if1 .left)) in
     (s .1 .at .few, w .0, w .1, omega (arith, s .2 .accepted .long))
-
-look-after-requires : (t : ℕ) → look-lts.Need-after-requires (claims t) (look-at t) look.Post look-Inv-loop look-μ-loop
-look-after-requires t c κs =
-    let P = c .before .before .pass-decided .ensures .stands in
-    let w = stands-in _ _ _ P (omega (arith, c .before .if1 .left)) in
-    (P .at .few, P .at .upper, w .1)
-
-look-loop-holds : (t : ℕ) → look-lts.Need-loop-holds (claims t) (look-at t) look.Post look-Inv-loop look-μ-loop
-look-loop-holds t c = (search needs, c .before .before .before .pass-decided .ensures .stands .within, refl, look-start _ _ _ _ _ _ _ (c .after .ensures .pairs))
 
 look-has-requires : (t : ℕ) → look-lts.Need-has-requires (claims t) (look-at t) look.Post look-Inv-loop look-μ-loop
 look-has-requires t c κs = search needs
+
+look-came-to-requires : (t : ℕ) → look-lts.Need-came-to-requires (claims t) (look-at t) look.Post look-Inv-loop look-μ-loop
+look-came-to-requires t c κs = search needs
 
 look-same-length-2 : (t : ℕ) → look-lts.Need-same-length-2 (claims t) (look-at t) look.Post look-Inv-loop look-μ-loop
 look-same-length-2 t c = search needs
 
 look-returns-2 : (t : ℕ) → look-lts.Need-returns-2 (claims t) (look-at t) look.Post look-Inv-loop look-μ-loop
 look-returns-2 t c =
-    let L = c .before .before .before .before .loop in
-    let there = there-is _ _ _ _ _ _ _ _ (c .before .before .before .before .before .before .get .ensures) (c .before .before .has .ensures) (c .before .if2 .taken) in
-    shows-passed _ _ _ _ _ _ _ _ (c .before .before .before .before .before .before .before .before .pass-decided .ensures)
-    (shows-gave-up _ _ _ _ _ _ (sym (L .inv .3) ∙ from-spent _ _ _ _ _ _ _ _ (c .before .before .before .loop-test .taken) there (c .if3 .taken)) (L .inv .2) (L .inv .1))
+    let L = c .before .before .before .before .before .before .loop in
+    let there = there-is _ _ _ _ _ _ _ _ (c .before .before .before .before .get .ensures) (c .before .before .before .has .ensures) (c .before .before .if2 .taken) in
+    shows-passed _ _ _ _ _ _ _ _ (c .before .before .before .before .before .before .before .before .before .pass-decided .ensures)
+    (shows-gave-up _ _ _ _ _ _ _ (L .inv .2) (L .inv .1) (c .came-to .ensures .1) (sym (L .inv .3) ∙ from-spent _ _ _ _ _ _ _ _ (c .before .before .before .before .before .loop-test .taken) there (c .before .if3 .taken)) (c .came-to .ensures .0))
 
 look-add-used : (t : ℕ) → look-lts.Need-add-used (claims t) (look-at t) look.Post look-Inv-loop look-μ-loop
 look-add-used t c = search needs
@@ -117,8 +122,8 @@ look-slice-aggregate-attempt-in t c = search needs
 look-attempt-in-requires : (t : ℕ) → look-lts.Need-attempt-in-requires (claims t) (look-at t) look.Post look-Inv-loop look-μ-loop
 look-attempt-in-requires t c κs =
     let s = c .before .before .before .before .before .before .before .before .before .before .before .pre .1 in
-    let w = stands-in _ _ _ (c .before .before .before .before .before .before .before .before .before .pass-decided .ensures .stands) (omega (arith, c .before .before .before .before .before .before .before .before .if1 .left)) in
-    (s .0, s .2 .accepted .long, record { few = s .1 .at .few; fits = square _ (s .1 .at .few) .1 }, w .0, w .1, w .2, c .before .before .before .before .loop-test .taken)
+    let w = stands-in _ _ _ (c .before .before .before .before .before .before .before .before .before .pass-decided .ensures .stands) (omega (arith, c .before .before .before .before .before .before .before .if1 .left)) in
+    (s .0, s .2 .accepted .long, record { few = s .1 .at .few; fits = square _ (s .1 .at .few) .1 }, w .0, w .1, w .2, c .before .before .before .before .before .loop-test .taken)
 
 look-enum-known-answer : (t : ℕ) → look-lts.Need-enum-known-answer (claims t) (look-at t) look.Post look-Inv-loop look-μ-loop
 look-enum-known-answer t c = search needs
@@ -132,40 +137,44 @@ look-loop-less t c = search needs
 look-loop-again : (t : ℕ) → look-lts.Need-loop-again (claims t) (look-at t) look.Post look-Inv-loop look-μ-loop
 look-loop-again t c =
     let tried = c .before .before .attempt-in in
-    let L = c .before .before .before .before .before .before .before .before .loop in
+    let L = c .before .before .before .before .before .before .before .before .before .loop in
     let n = c .before .before .before .before .before .before .before .before .before .before .before .before .before .before .args .n in
-    let there = there-is _ _ _ _ _ _ _ _ (c .before .before .before .before .before .before .before .before .before .before .get .ensures) (c .before .before .before .before .before .before .has .ensures) (c .before .before .before .before .before .if2 .taken) in (
+    let there = there-is _ _ _ _ _ _ _ _ (c .before .before .before .before .before .before .before .get .ensures) (c .before .before .before .before .before .before .has .ensures) (c .before .before .before .before .before .if2 .taken) in (
       search needs,
       search needs,
       L .inv .2,
-      sym (turn-emptied _ _ _ _ _ (take (n * n) (tried .last .1 .1 .0)) _ _ (tried .result) (c .before .before .before .before .before .before .before .loop-test .taken) there (c .before .before .before .before .if3 .left) (tried .ensures) (c .match .keys2)) ∙ L .inv .3,
+      sym (turn-emptied _ _ _ _ _ (take (n * n) (tried .last .1 .1 .0)) _ _ (tried .result) (c .before .before .before .before .before .before .before .before .loop-test .taken) there (c .before .before .before .before .if3 .left) (tried .ensures) (c .match .keys2)) ∙ L .inv .3,
     )
 
-look-sub-t32 : (t : ℕ) → look-lts.Need-sub-t32 (claims t) (look-at t) look.Post look-Inv-loop look-μ-loop
-look-sub-t32 t c = omega (arith, c .before .before .before .before .before .before .before .before .before .before .before .before .before .if1 .left)
+look-step-requires : (t : ℕ) → look-lts.Need-step-requires (claims t) (look-at t) look.Post look-Inv-loop look-μ-loop
+look-step-requires t c κs =
+    let P = c .before .before .before .before .before .before .before .before .before .before .before .before .before .before .pass-decided .ensures .stands in
+    let some = c .before .before .before .before .before .before .before .before .before .before .before .before .if1 .left in
+    (P .at .few, P .at .upper, stands-in _ _ _ P (omega (arith, some)) .1, omega (arith, some))
 
 look-array-share-prefix-work : (t : ℕ) → look-lts.Need-array-share-prefix-work (claims t) (look-at t) look.Post look-Inv-loop look-μ-loop
-look-array-share-prefix-work t c = omega (arith, c .before .before .before .before .attempt-in .kept .1 .1 .0, square _ (c .before .before .before .before .before .before .before .before .before .before .before .before .before .before .before .before .pre .1 .1 .at .few) .1)
+look-array-share-prefix-work t c = omega (arith, c .before .before .before .before .before .attempt-in .kept .1 .1 .0, square _ (c .before .before .before .before .before .before .before .before .before .before .before .before .before .before .before .before .before .pre .1 .1 .at .few) .1)
 
 look-slice-aggregate-look : (t : ℕ) → look-lts.Need-slice-aggregate-look (claims t) (look-at t) look.Post look-Inv-loop look-μ-loop
-look-slice-aggregate-look t c = sym (length-take-le _ _ (omega (arith, c .before .before .before .before .before .attempt-in .kept .1 .1 .0, square _ (c .before .before .before .before .before .before .before .before .before .before .before .before .before .before .before .before .before .pre .1 .1 .at .few) .1)))
+look-slice-aggregate-look t c = sym (length-take-le _ _ (omega (arith, c .before .before .before .before .before .before .attempt-in .kept .1 .1 .0, square _ (c .before .before .before .before .before .before .before .before .before .before .before .before .before .before .before .before .before .before .pre .1 .1 .at .few) .1)))
 
 look-look-requires : (t : ℕ) → look-lts.Need-look-requires (claims t) (look-at t) look.Post look-Inv-loop look-μ-loop
 look-look-requires t c κs =
-    let tried = c .before .before .before .before .before .before .attempt-in in
-    let L = c .before .before .before .before .before .before .before .before .before .before .before .before .loop in
-    let s = c .before .before .before .before .before .before .before .before .before .before .before .before .before .before .before .before .before .before in
+    let stepped = c .before .before .step .ensures in
+    let tried = c .before .before .before .before .before .before .before .attempt-in in
+    let L = c .before .before .before .before .before .before .before .before .before .before .before .before .before .before .loop in
+    let s = c .before .before .before .before .before .before .before .before .before .before .before .before .before .before .before .before .before .before .before in
     let n = s .args .n in
-    let P = c .before .before .before .before .before .before .before .before .before .before .before .before .before .before .before .before .pass-decided .ensures in
+    let P = c .before .before .before .before .before .before .before .before .before .before .before .before .before .before .before .before .before .pass-decided .ensures in
     let some = c .before .before .before .before .before .before .before .before .before .before .before .before .before .before .before .if1 .left in
     let w = stands-in _ _ _ (P .stands) (omega (arith, some)) in
-    let there = there-is _ _ _ _ _ _ _ _ (c .before .before .before .before .before .before .before .before .before .before .before .before .before .before .get .ensures) (c .before .before .before .before .before .before .before .before .before .before .has .ensures) (c .before .before .before .before .before .before .before .before .before .if2 .taken) in
+    let there = there-is _ _ _ _ _ _ _ _ (c .before .before .before .before .before .before .before .before .before .before .before .before .get .ensures) (c .before .before .before .before .before .before .before .before .before .before .before .has .ensures) (c .before .before .before .before .before .before .before .before .before .before .if2 .taken) in
     let long = length-take-le (n * n) (tried .last .1 .1 .0) (omega (arith, tried .kept .1 .1 .0, square _ (s .pre .1 .1 .at .few) .1)) in (
-      omega (arith, s .pre .0, some, P .fewer),
+      omega (arith, s .pre .0, some, P .fewer, stepped .left),
       (
         s .pre .1 .0,
-        record { at = at-next _ _ _ _ _ _ (P .stands .at) (c .before .before .before .before .before .before .before .before .before .before .before .before .before .after .ensures); within = omega (arith, tries-left _ _ (L .inv .1) (c .before .before .before .before .before .before .before .before .if3 .left)) },
-        next-searched _ _ _ _ _ _ _ _ (P .stands .at .upper) (w .1) (c .before .before .before .before .before .before .before .before .before .before .before .loop-test .taken) there (s .pre .1 .2) (tried .ensures) (c .before .before .before .answer .given .1) long,
+        record { at = step-at _ _ _ _ stepped (P .stands .at) (w .1); within = omega (arith, stepped .tries, tries-left _ _ (L .inv .1) (c .before .before .before .before .before .before .before .before .before .if3 .left)) },
+        next-searched _ _ _ _ _ _ _ _ (P .stands .at .upper) (w .1) (c .before .before .before .before .before .before .before .before .before .before .before .before .before .loop-test .taken) there (s .pre .1 .2) (tried .ensures) (c .before .before .before .before .answer .given .1) long,
         ap length (L .inv .2) ∙ s .pre .1 .3,
       ),
     )
@@ -174,14 +183,15 @@ look-enum-told : (t : ℕ) → look-lts.Need-enum-told (claims t) (look-at t) lo
 look-enum-told t c = search needs
 
 look-same-length-3 : (t : ℕ) → look-lts.Need-same-length-3 (claims t) (look-at t) look.Post look-Inv-loop look-μ-loop
-look-same-length-3 t c = c .before .before .look .kept .1 .1 .1 .1 .1 .0 ∙ ap length (c .before .before .before .before .before .before .before .before .before .before .before .before .before .before .before .loop .inv .2)
+look-same-length-3 t c = c .before .before .look .kept .1 .1 .1 .1 .1 .0 ∙ ap length (c .before .before .before .before .before .before .before .before .before .before .before .before .before .before .before .before .before .loop .inv .2)
 
 look-returns-3 : (t : ℕ) → look-lts.Need-returns-3 (claims t) (look-at t) look.Post look-Inv-loop look-μ-loop
 look-returns-3 t c =
-    let L = c .before .before .before .before .before .before .before .before .before .before .before .before .before .before .before .loop in
-    let there = there-is _ _ _ _ _ _ _ _ (c .before .before .before .before .before .before .before .before .before .before .before .before .before .before .before .before .before .get .ensures) (c .before .before .before .before .before .before .before .before .before .before .before .before .before .has .ensures) (c .before .before .before .before .before .before .before .before .before .before .before .before .if2 .taken) in
-    shows-passed _ _ _ _ _ _ _ _ (c .before .before .before .before .before .before .before .before .before .before .before .before .before .before .before .before .before .before .before .pass-decided .ensures)
-    (turn-kept _ _ _ _ _ _ _ _ _ (c .before .before .before .before .before .before .before .before .before .before .before .before .before .before .loop-test .taken) there (c .before .before .before .before .before .before .before .before .before .before .before .if3 .left) (c .before .before .before .before .before .before .before .before .before .attempt-in .ensures) _ _ _ _ (c .before .before .before .before .before .before .answer .given .1) (c .before .before .look .ensures) (c .match2 .keys2) _ _ (L .inv .3) (L .inv .2))
+    let L = c .before .before .before .before .before .before .before .before .before .before .before .before .before .before .before .before .before .loop in
+    let there = there-is _ _ _ _ _ _ _ _ (c .before .before .before .before .before .before .before .before .before .before .before .before .before .before .before .get .ensures) (c .before .before .before .before .before .before .before .before .before .before .before .before .before .before .has .ensures) (c .before .before .before .before .before .before .before .before .before .before .before .before .before .if2 .taken) in
+    let below = shows-next _ _ _ _ (c .before .before .before .before .before .step .ensures) _ _ _ _ _ (c .before .before .look .ensures) in
+    shows-passed _ _ _ _ _ _ _ _ (c .before .before .before .before .before .before .before .before .before .before .before .before .before .before .before .before .before .before .before .before .pass-decided .ensures)
+    (turn-kept _ _ _ _ _ _ _ _ _ (c .before .before .before .before .before .before .before .before .before .before .before .before .before .before .before .before .loop-test .taken) there (c .before .before .before .before .before .before .before .before .before .before .before .before .if3 .left) (c .before .before .before .before .before .before .before .before .before .before .attempt-in .ensures) _ _ _ _ (c .before .before .before .before .before .before .before .answer .given .1) below (c .match2 .keys2) _ _ (L .inv .3) (L .inv .2))
 
 look-add-r-2 : (t : ℕ) → look-lts.Need-add-r-2 (claims t) (look-at t) look.Post look-Inv-loop look-μ-loop
 look-add-r-2 t c = search needs
@@ -191,13 +201,14 @@ look-loop-less-2 t c = search needs
 
 look-loop-again-2 : (t : ℕ) → look-lts.Need-loop-again-2 (claims t) (look-at t) look.Post look-Inv-loop look-μ-loop
 look-loop-again-2 t c =
-    let L = c .before .before .before .loop in
-    let lt = c .before .before .loop-test .taken in
-    let got = c .before .before .before .before .before .get .ensures in
+    let L = c .before .before .before .before .loop in
+    let lt = c .before .before .before .loop-test .taken in
+    let got = c .before .before .get .ensures in
     ⊎-elim
     (λ w.
-    let turn = turn-none _ _ _ _ _ _ _ _ _ lt (there-is _ _ _ _ _ _ _ _ got (c .before .has .ensures) (w .0 .taken)) (w .1 .left) (w .3 .ensures) _ _ _ _ (w .6 .given .1) (w .10 .ensures) (w .13 .given .1) _ (w .15) in
-    (search needs, omega (arith, w .10 .ensures .within, w .15), w .14 ∙ turn .1 ∙ L .inv .2, sym (turn .0) ∙ L .inv .3))
+    let below = shows-next _ _ _ _ (w .8 .ensures) _ _ _ _ _ (w .11 .ensures) in
+    let turn = turn-none _ _ _ _ _ _ _ _ _ lt (there-is _ _ _ _ _ _ _ _ got (c .before .has .ensures) (w .0 .taken)) (w .1 .left) (w .3 .ensures) _ _ _ _ (w .6 .given .1) below (w .14 .given .1) _ (w .16) in
+    (search needs, omega (arith, w .11 .ensures .within, w .16), w .15 ∙ turn .1 ∙ L .inv .2, sym (turn .0) ∙ L .inv .3))
     (λ w. (
       search needs,
       omega (arith, w .2, L .inv .1),
@@ -206,13 +217,17 @@ look-loop-again-2 t c =
     ))
     (c .if2 .came)
 
+look-came-to-requires-2 : (t : ℕ) → look-lts.Need-came-to-requires-2 (claims t) (look-at t) look.Post look-Inv-loop look-μ-loop
+look-came-to-requires-2 t c κs = search needs
+
 look-same-length-4 : (t : ℕ) → look-lts.Need-same-length-4 (claims t) (look-at t) look.Post look-Inv-loop look-μ-loop
 look-same-length-4 t c = search needs
 
 look-returns-4 : (t : ℕ) → look-lts.Need-returns-4 (claims t) (look-at t) look.Post look-Inv-loop look-μ-loop
 look-returns-4 t c =
-    let L = c .before .loop in
-    shows-passed _ _ _ _ _ _ _ _ (c .before .before .before .before .before .pass-decided .ensures) (shows-none _ _ _ _ _ _ (sym (L .inv .3) ∙ from-end _ _ _ _ _ _ _ _ (c .loop-test .left)) (L .inv .2) (L .inv .1))
+    let L = c .before .before .loop in
+    shows-passed _ _ _ _ _ _ _ _ (c .before .before .before .before .before .pass-decided .ensures)
+    (shows-none _ _ _ _ _ _ _ (L .inv .2) (L .inv .1) (c .came-to2 .ensures .1) (sym (L .inv .3) ∙ from-end _ _ _ _ _ _ _ _ (c .before .loop-test .left)) (c .came-to2 .ensures .0))
 
 pub +look-spec : {M : Type 1} → statement M
 +look-spec = close μ-look λ t. look-lts.spec (claims t)
@@ -225,10 +240,10 @@ pub +look-spec : {M : Type 1} → statement M
     (look-same-length t)
     (look-returns t)
     (look-mul-cells t)
-    (look-get-requires t)
-    (look-after-requires t)
     (look-loop-holds t)
+    (look-get-requires t)
     (look-has-requires t)
+    (look-came-to-requires t)
     (look-same-length-2 t)
     (look-returns-2 t)
     (look-add-used t)
@@ -238,7 +253,7 @@ pub +look-spec : {M : Type 1} → statement M
     (look-add-r t)
     (look-loop-less t)
     (look-loop-again t)
-    (look-sub-t32 t)
+    (look-step-requires t)
     (look-array-share-prefix-work t)
     (look-slice-aggregate-look t)
     (look-look-requires t)
@@ -248,5 +263,6 @@ pub +look-spec : {M : Type 1} → statement M
     (look-add-r-2 t)
     (look-loop-less-2 t)
     (look-loop-again-2 t)
+    (look-came-to-requires-2 t)
     (look-same-length-4 t)
     (look-returns-4 t)

@@ -1,6 +1,6 @@
 -- Along the row, or down to the next.
-use Rattle.search.proofs.RuleLaws.{next-along, next-down}
-use native.Mathlib.Omega.{arith}
+use mathlib.Core.Path.{refl}
+use borrow.Author.Tests.{lt-ltb, le-ltb}
 use borrow.Author.Needs.{needs}
 use Rattle.search.proofs.after.Statement.{statement}
 use Rattle.search.proofs.after.Tie as tie
@@ -18,10 +18,10 @@ add-t9 : tie.Need-add-t9
 add-t9 c = search needs
 
 returns : tie.Need-returns
-returns c = next-along _ _ _ (omega arith) (omega arith)
+returns c = rw (lt-ltb _ _ (c .if1 .taken)) (refl, refl)
 
 returns-2 : tie.Need-returns-2
-returns-2 c = next-down _ _ _ (omega arith) (omega arith) (omega arith)
+returns-2 c = rw (le-ltb _ _ (c .if1 .left)) (refl, refl)
 
 pub after-spec : {M : Type 1} → statement M
 after-spec = tie.close (tie.spec add-if1 add-t7 add-t8 add-t9 returns returns-2)

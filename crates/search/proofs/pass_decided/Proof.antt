@@ -35,25 +35,30 @@ without-lowest-requires c κs =
 returns-2 : tie.Need-returns-2 Inv-loop μ-loop
 returns-2 c = c .before .before .before .before .before .before .before .loop .inv
 
+add-step : tie.Need-add-step Inv-loop μ-loop
+add-step c =
+    let L = c .before .before .before .before .before .before .before .before .loop in
+    let s = c .before .before .before .before .before .before .before .before .before .before in
+    omega (arith, s .fits .allowance, tries-left _ _ (L .inv .stands .within) (c .before .before .before .before .if2 .left))
+
 step-requires : tie.Need-step-requires Inv-loop μ-loop
 step-requires c κs =
-    let L = c .before .before .before .before .before .before .before .loop in
-    let more = c .before .before .before .before .before .if1 .taken in
+    let L = c .before .before .before .before .before .before .before .before .loop in
+    let more = c .before .before .before .before .before .before .if1 .taken in
     let in-grid = stands-in _ _ _ (L .inv .stands) more in
-    let s = c .before .before .before .before .before .before .before .before .before in
-    (L .inv .stands .at .few, L .inv .stands .at .upper, in-grid .1, more, omega (arith, s .fits .allowance, tries-left _ _ (L .inv .stands .within) (c .before .before .before .if2 .left)))
+    (L .inv .stands .at .few, L .inv .stands .at .upper, in-grid .1, more)
 
 loop-less : tie.Need-loop-less Inv-loop μ-loop
-loop-less c = omega (arith, c .step .ensures .left, c .before .before .before .before .before .before .if1 .taken)
+loop-less c = omega (arith, c .step .ensures .left, c .before .before .before .before .before .before .before .if1 .taken)
 
 loop-again : tie.Need-loop-again Inv-loop μ-loop
 loop-again c =
-    let got = c .before .before .before .get in
-    let L = c .before .before .before .before .before .before .before .before .loop in
-    let s = c .before .before .before .before .before .before .before .before .before .before .pre in
-    let more = c .before .before .before .before .before .before .if1 .taken in
-    let fresh = c .before .before .before .before .if2 .left in
-    let alone = sym (c .before .before .without-lowest .ensures) ∙ c .before .if3 .left in
+    let got = c .before .before .before .before .get in
+    let L = c .before .before .before .before .before .before .before .before .before .loop in
+    let s = c .before .before .before .before .before .before .before .before .before .before .before .pre in
+    let more = c .before .before .before .before .before .before .before .if1 .taken in
+    let fresh = c .before .before .before .before .before .if2 .left in
+    let alone = sym (c .before .before .before .without-lowest .ensures) ∙ c .before .before .if3 .left in
     record {
       stands = alone-stands _ _ _ (s .1) _ _ (L .inv .stands) more fresh (c .step .ensures) _ (got .ensures) alone;
       fewer = omega (arith, c .step .ensures .left, L .inv .fewer);
@@ -74,6 +79,7 @@ pass-decided-spec =
     get-requires
     without-lowest-requires
     returns-2
+    add-step
     step-requires
     loop-less
     loop-again

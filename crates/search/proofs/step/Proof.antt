@@ -1,4 +1,4 @@
--- The next cell, with one cell less and one try more.
+-- The next cell, with one cell less.
 use mathlib.Core.Path.{refl}
 use borrow.Author.Needs.{needs}
 use Rattle.search.proofs.step.Statement.{statement}
@@ -10,11 +10,8 @@ after-requires c κs = search needs
 sub-left : tie.Need-sub-left
 sub-left c = search needs
 
-add-tries : tie.Need-add-tries
-add-tries c = search needs
-
 returns : tie.Need-returns
-returns c = record { next = c .before .before .after .ensures; left = refl; tries = refl }
+returns c = let next = c .before .after .ensures in record { i = next .0; j = next .1; left = refl; tries = refl }
 
 pub step-spec : {M : Type 1} → statement M
-step-spec = tie.close (tie.spec after-requires sub-left add-tries returns)
+step-spec = tie.close (tie.spec after-requires sub-left returns)
