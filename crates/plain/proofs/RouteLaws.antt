@@ -83,21 +83,21 @@ module _ (n a m b : ℕ) (g : List ℕ) (G : Held n g) where
       go (inl e) x y z u = u .3 .ac (u .0 ∙ sym e ∙ sym (u .1))
       go (inr e) x y z u = u .3 .bc (u .2 ∙ sym e ∙ sym (u .1))
 
-  module _ (old am mb r : ℕ) (e₁ : old ≡ cell n g a b) (e₂ : am ≡ cell n g a m) (e₃ : mb ≡ cell n g m b) (e₄ : r ≡ compose am mb) where
-    pub value-is : bitAnd old r ≡ value allen n g a m b
+  module _ (old am mb new : ℕ) (e₁ : old ≡ cell n g a b) (e₂ : am ≡ cell n g a m) (e₃ : mb ≡ cell n g m b) (e₄ : new ≡ bitAnd old (compose am mb)) where
+    pub value-is : new ≡ value allen n g a m b
     value-is = rw (e₄, e₂, e₃, e₁)
 
-    pub unchanged : bitAnd old r ≡ old → Progress allen ones n (OneRoute n a m b) g g false
+    pub unchanged : new ≡ old → Progress allen ones n (OneRoute n a m b) g g false
     unchanged e = nothing-but n (OneRoute n a m b) g G (λ x y z u. rw (u .0, u .1, u .2) (sym value-is ∙ e ∙ e₁))
 
     module _ (lo : a < b) (hb : b < n) (hm : m < n) (ma : m ≡ a → ⊥) (nb : m ≡ b → ⊥) where
       route : Distinct n a b m
       route = record { ha = omega arith; hb = hb; hc = hm; ab = λ e. omega arith; bc = λ e. nb (sym e); ac = λ e. ma (sym e) }
 
-      pub dead-end : bitAnd old r ≡ 0 → DeadEnd allen n g
+      pub dead-end : new ≡ 0 → DeadEnd allen n g
       dead-end z = record { at = g; cuts = none; a = a; m = m; b = b; route = route; empty = sym value-is ∙ z }
 
-      pub shrinks : (bitAnd old r ≡ old → ⊥) → (bitAnd old r ≡ 0 → ⊥) → (g' : List ℕ) → g' ≡ putBoth converse n g a b (bitAnd old r)
+      pub shrinks : (new ≡ old → ⊥) → (new ≡ 0 → ⊥) → (g' : List ℕ) → g' ≡ putBoth converse n g a b new
           → Progress allen ones n (OneRoute n a m b) g g' true
       shrinks ne nz g' q =
           one-cut n (OneRoute n a m b) g g' G

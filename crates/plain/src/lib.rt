@@ -135,10 +135,10 @@ fn cut_by_route(
     let old = grid::get(g, n, a, b);
     let am = grid::get(g, n, a, m);
     let mb = grid::get(g, n, m, b);
-    if relation::allows(rows, am, mb, old) {
+    let new = relation::cut_by(rows, old, am, mb);
+    if new == old {
         return Swept::Moved(false);
     }
-    let new = old & relation::compose_by_rows(rows, am, mb);
     if new == 0 {
         return Swept::Dead;
     }

@@ -3,7 +3,6 @@ ghost use mathlib.Core.Path.{_≡_};
 ghost use Prim.Native.Nat.{_+_, _-_, _*_, _^_, _≤_, _<_};
 ghost use lib.Bits.{bitAnd};
 ghost use lib.Count.{trailingZeros};
-ghost use lib.Dec.{eqb};
 ghost use lib.ListN.{length};
 ghost use Rattle.relation.specs.Meaning.{exchanged};
 ghost use Rattle.relation.specs.Sets.{member};
@@ -245,25 +244,11 @@ fn row_by_halves(rows: &[u16; HALF_ROWS], r: usize, b: u16) -> u16
     rows[low * AT_PLACE + r] | rows[high * AT_PLACE + r]
 }
 
-// The composition of two sets, from the half rows: for many calls.
-pub fn compose_by_rows(rows: &[u16; HALF_ROWS], a: u16, b: u16) -> u16
+// What a with b leaves of a set, from the half rows: for many calls. Mostly a member or two of a allow all of the set, and then
+// the others are not looked at.
+pub fn cut_by(rows: &[u16; HALF_ROWS], set: u16, a: u16, b: u16) -> u16
     requires { ⌜ HalfRows (now rows) ⌝ }
-    ensures { λ x. ⌜ x ≡ compose a b ⌝ }
-{
-    let mut out: u16 = 0;
-    let mut left = a % 8192;
-    while left != 0 {
-        let r = lowest(left);
-        out |= row_by_halves(rows, r, b);
-        left = without_lowest(left);
-    }
-    out
-}
-
-// Whether a with b allows every member of a set. It mostly does after a member or two of a, and then the others are not looked at.
-pub fn allows(rows: &[u16; HALF_ROWS], a: u16, b: u16, set: u16) -> bool
-    requires { ⌜ HalfRows (now rows) ⌝ }
-    ensures { λ x. ⌜ x ≡ eqb (bitAnd set (compose a b)) set ⌝ }
+    ensures { λ x. ⌜ x ≡ bitAnd set (compose a b) ⌝ }
 {
     let mut out: u16 = 0;
     let mut left = a % 8192;
@@ -271,9 +256,9 @@ pub fn allows(rows: &[u16; HALF_ROWS], a: u16, b: u16, set: u16) -> bool
         let r = lowest(left);
         out |= row_by_halves(rows, r, b);
         if set & out == set {
-            return true;
+            return set;
         }
         left = without_lowest(left);
     }
-    set & out == set
+    set & out
 }

@@ -4,9 +4,8 @@ use mathlib.Core.Bool.{true, false}
 use mathlib.Core.List.{List}
 use Prim.Native.Nat.{ℕ, zero, suc, _+_, _≤_, _<_}
 use native.Mathlib.Omega.{arith}
-use borrow.Author.Tests.{eqb-true}
 use lib.Bits.{bitAnd}
-use lib.Dec.{T, eqb}
+use lib.Dec.{T}
 use Rattle.relation.specs.Composition.{compose}
 use Rattle.grid.specs.Cells.{cell}
 use Rattle.theory.specs.Allen.{allen}
@@ -18,18 +17,17 @@ use Rattle.takes.specs.declared.Line.{Line}
 use Rattle.takes.specs.declared.Cut.{Cut}
 use Rattle.takes.specs.declared.Cut.the-variants.{Dead, Going}
 
--- a cut, from the cells read and the composition made
-pub cut-is : (n a m b : ℕ) (g q : List ℕ) (old am mb r : ℕ) → old ≡ cell n g a b → am ≡ cell n g a m → mb ≡ cell n g m b → r ≡ compose am mb
-    → cut allen n a m b g q ≡ shrunk allen n a b old (bitAnd old r) g q
+-- a cut, from the cells read and what is left
+pub cut-is : (n a m b : ℕ) (g q : List ℕ) (old am mb new : ℕ) → old ≡ cell n g a b → am ≡ cell n g a m → mb ≡ cell n g m b → new ≡ bitAnd old (compose am mb)
+    → cut allen n a m b g q ≡ shrunk allen n a b old new g q
 unfolding cut
-cut-is n a m b g q old am mb r e₁ e₂ e₃ e₄ = rw (e₄, e₂, e₃, e₁)
+cut-is n a m b g q old am mb new e₁ e₂ e₃ e₄ = rw (e₄, e₂, e₃, e₁)
 
 -- a turn, from the cells read and the two tests made
 pub still-is : (n i j k : ℕ) (g : List ℕ) (ij jk ik ki kj : ℕ) → ij ≡ cell n g i j → jk ≡ cell n g j k → ik ≡ cell n g i k → ki ≡ cell n g k i → kj ≡ cell n g k j
-    → eqb (bitAnd ik (compose ij jk)) ik ≡ true → eqb (bitAnd kj (compose ki ij)) kj ≡ true → Still n i j g k
+    → bitAnd ik (compose ij jk) ≡ ik → bitAnd kj (compose ki ij) ≡ kj → Still n i j g k
 still-is n i j k g ij jk ik ki kj e₁ e₂ e₃ e₄ e₅ s t q =
-    turn-still allen n i j k g q (rw (← e₁, ← e₂, ← e₃) (eqb-true (bitAnd ik (compose ij jk)) ik s))
-    (rw (← e₁, ← e₄, ← e₅) (eqb-true (bitAnd kj (compose ki ij)) kj t))
+    turn-still allen n i j k g q (rw (← e₁, ← e₂, ← e₃) s) (rw (← e₁, ← e₄, ← e₅) t)
 
 pub not-still : {P : Type 0} → false ≡ true → P
 not-still e = absurd (subst T (sym e) tt)

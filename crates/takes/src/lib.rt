@@ -94,7 +94,7 @@ fn cut_cell(
     let old = grid::get(g, n, a, b);
     let am = grid::get(g, n, a, m);
     let mb = grid::get(g, n, m, b);
-    let new = old & relation::compose_by_rows(rows, am, mb);
+    let new = relation::cut_by(rows, old, am, mb);
     if new == old {
         return Cut::Going(l);
     }
@@ -139,11 +139,13 @@ fn is_still(rows: &[u16; HALF_ROWS], g: &[u16], n: usize, i: usize, j: usize, k:
 {
     let ij = grid::get(g, n, i, j);
     let jk = grid::get(g, n, j, k);
-    if !relation::allows(rows, ij, jk, grid::get(g, n, i, k)) {
+    let ik = grid::get(g, n, i, k);
+    if relation::cut_by(rows, ik, ij, jk) != ik {
         return false;
     }
     let ki = grid::get(g, n, k, i);
-    relation::allows(rows, ki, ij, grid::get(g, n, k, j))
+    let kj = grid::get(g, n, k, j);
+    relation::cut_by(rows, kj, ki, ij) == kj
 }
 
 // The first event from k on whose turn may cut something, or n. Most turns cut nothing, and this only reads.

@@ -15,8 +15,8 @@ get-requires-2 c κs = search needs
 get-requires-3 : tie.Need-get-requires-3
 get-requires-3 c κs = search needs
 
-compose-by-rows-requires : tie.Need-compose-by-rows-requires
-compose-by-rows-requires c κs = search needs
+cut-by-requires : tie.Need-cut-by-requires
+cut-by-requires c κs = search needs
 
 same-length : tie.Need-same-length
 same-length c = search needs
@@ -27,7 +27,7 @@ returns c =
     let get = c .before .before .before .before .before .before .get in
     let get2 = c .before .before .before .before .get2 in
     let get3 = c .before .before .get3 in
-    record { same = sym (cut-is _ _ _ _ _ _ _ _ _ _ (get .ensures) (get2 .ensures) (get3 .ensures) (c .before .compose-by-rows .ensures) ∙ shrunk-same _ _ _ _ _ _ _ _ (c .if1 .taken)); sound = s .pre .6 }
+    record { same = sym (cut-is _ _ _ _ _ _ _ _ _ _ (get .ensures) (get2 .ensures) (get3 .ensures) (c .before .cut-by .ensures) ∙ shrunk-same _ _ _ _ _ _ _ _ (c .if1 .taken)); sound = s .pre .6 }
 
 same-length-2 : tie.Need-same-length-2
 same-length-2 c = search needs
@@ -37,8 +37,8 @@ returns-2 c =
     let get = c .before .before .before .before .before .before .before .get in
     let get2 = c .before .before .before .before .before .get2 in
     let get3 = c .before .before .before .get3 in
-    let compose-by-rows = c .before .before .compose-by-rows in
-    record { same = sym (cut-is _ _ _ _ _ _ _ _ _ _ (get .ensures) (get2 .ensures) (get3 .ensures) (compose-by-rows .ensures) ∙ shrunk-dead _ _ _ _ _ _ _ _ (c .before .if1 .left) (c .if2 .taken)); sound = tt }
+    let cut-by = c .before .before .cut-by in
+    record { same = sym (cut-is _ _ _ _ _ _ _ _ _ _ (get .ensures) (get2 .ensures) (get3 .ensures) (cut-by .ensures) ∙ shrunk-dead _ _ _ _ _ _ _ _ (c .before .if1 .left) (c .if2 .taken)); sound = tt }
 
 write-cut-requires : tie.Need-write-cut-requires
 write-cut-requires c κs = search needs
@@ -51,12 +51,12 @@ returns-3 c =
     let get = c .before .before .before .before .before .before .before .before .before .before .before .before .before .get in
     let get2 = c .before .before .before .before .before .before .before .before .before .before .before .get2 in
     let get3 = c .before .before .before .before .before .before .before .before .before .get3 in
-    let compose-by-rows = c .before .before .before .before .before .before .before .before .compose-by-rows in
+    let cut-by = c .before .before .before .before .before .before .before .before .cut-by in
     let if1 = c .before .before .before .before .before .before .before .if1 in
     let if2 = c .before .before .before .before .before .before .if2 in
     let write-cut = c .before .before .write-cut in
     record {
-      same = write-cut .ensures .0 ∙ sym (cut-is _ _ _ _ _ _ _ _ _ _ (get .ensures) (get2 .ensures) (get3 .ensures) (compose-by-rows .ensures) ∙ shrunk-written _ _ _ _ _ _ _ _ (if1 .left) (if2 .left));
+      same = write-cut .ensures .0 ∙ sym (cut-is _ _ _ _ _ _ _ _ _ _ (get .ensures) (get2 .ensures) (get3 .ensures) (cut-by .ensures) ∙ shrunk-written _ _ _ _ _ _ _ _ (if1 .left) (if2 .left));
       sound = write-cut .ensures .1;
     }
 
@@ -67,7 +67,7 @@ cut-cell-spec =
     get-requires
     get-requires-2
     get-requires-3
-    compose-by-rows-requires
+    cut-by-requires
     same-length
     returns
     same-length-2

@@ -1,22 +1,20 @@
--- What is gathered so far lies inside the composition, so where it holds the whole set, the composition does too.
+-- What is gathered so far lies inside the composition, so where it holds the whole set, all of the set is left.
 use mathlib.Core.Path.{refl, sym, ap}
-use Prim.Native.Nat.{ℕ, _-_, _^_}
-use borrow.Author.Tests.{eq-eqb}
+use Prim.Native.Nat.{_-_, _^_}
 use lib.Bits.{bitAnd}
 use lib.Count.{trailingZeros}
-use lib.Dec.{eqb}
 use Rattle.relation.specs.Composition.{composeRow, compose}
 use Rattle.relation.proofs.UnionLaws.{Gathers, gathers-start, gathers-turn, gathers-end, gathers-holds, next-of}
 use Rattle.relation.proofs.Laws.{row-lt}
 use borrow.Author.Needs.{needs}
-use Rattle.relation.proofs.allows.Statement.{statement}
-use Rattle.relation.proofs.allows.Tie as tie
+use Rattle.relation.proofs.cut_by.Statement.{statement}
+use Rattle.relation.proofs.cut_by.Tie as tie
 
 abbrev Inv-loop : tie.InvT-loop
-Inv-loop rows a b set out₀ left₀ out left = Gathers (λ r. composeRow r b) a out left
+Inv-loop rows set a b out₀ left₀ out left = Gathers (λ r. composeRow r b) a out left
 
 abbrev μ-loop : tie.MeasureT-loop
-μ-loop rows a b set out₀ left₀ out left = left
+μ-loop rows set a b out₀ left₀ out left = left
 
 loop-holds : tie.Need-loop-holds Inv-loop μ-loop
 loop-holds c = gathers-start (λ r. composeRow r (c .args .b)) (c .args .a)
@@ -35,7 +33,7 @@ returns c =
     let n = next-of (L .left) (c .before .before .lowest .result) (c .before .before .before .loop-test .taken) (L .inv .left-lt) (c .before .before .lowest .ensures) in
     let g = gathers-turn (λ r. composeRow r (s .b)) (s .a) (L .out) (L .left) (c .before .before .lowest .result) (c .before .row-by-halves .result) (L .left - 2 ^ trailingZeros 16 (L .left))
     (row-lt (c .before .before .lowest .result) (s .b)) n (L .inv) (c .before .row-by-halves .ensures) refl in
-    sym (eq-eqb _ _ (gathers-holds (λ r. composeRow r (s .b)) (s .a) _ _ (s .set) g (search needs) (c .if1 .taken)))
+    sym (gathers-holds (λ r. composeRow r (s .b)) (s .a) _ _ (s .set) g (search needs) (c .if1 .taken))
 
 without-lowest-requires : tie.Need-without-lowest-requires Inv-loop μ-loop
 without-lowest-requires c κs = search needs
@@ -59,10 +57,10 @@ unfolding compose
 returns-2 c =
     let s = c .before .before .args in
     let L = c .before .loop in
-    ap (λ (x : ℕ). eqb (bitAnd (s .set) x) (s .set)) (gathers-end (λ r. composeRow r (s .b)) (s .a) (L .out) (L .left) (c .loop-test .left) (L .inv))
+    ap (bitAnd (s .set)) (gathers-end (λ r. composeRow r (s .b)) (s .a) (L .out) (L .left) (c .loop-test .left) (L .inv))
 
-pub allows-spec : {M : Type 1} → statement M
-allows-spec =
+pub cut-by-spec : {M : Type 1} → statement M
+cut-by-spec =
     tie.close
     (tie.spec
     Inv-loop
