@@ -7,7 +7,7 @@ use native.Mathlib.Numerals.{add-one}
 use native.Mathlib.Omega.{arith}
 use lib.Arith.{digits-lt, digits-div, digits-mod}
 use lib.ListN.{length, getD, set, length-set, take, drop, replicate}
-use lib.Seq.{getD-set-same, getD-set-other, length-take-le, take-suc, drop-cons, append-snoc, set-at, set-getD}
+use lib.Seq.{getD-set-same, getD-set-other, length-take-le, take-suc, drop-cons, append-snoc, set-at, set-getD, take-at, take-all}
 use Rattle.grid.specs.Cells.{cell, put, putBoth}
 
 -- a cell's place is inside, and small
@@ -75,6 +75,10 @@ front-more d s k h g =
     ∙ set-at (take k s) (getD d k 0) (drop (suc k) d) (getD s k 0) k (length-take-le k s (omega arith))
     ∙ sym (append-snoc (take k s) (getD s k 0) (drop (suc k) d))
     ∙ rw (add-one, take-suc s k 0)
+
+-- the front of a room that a grid was copied to is the grid
+pub copied-front : (g room : List ℕ) (m : ℕ) → length g ≡ m → take m (take m g ++ drop m room) ≡ g
+copied-front g room m long = take-at (take m g) (drop m room) m (length-take-le m g (omega arith)) ∙ take-all m g (omega arith)
 
 -- ---- a cleared grid
 

@@ -3,8 +3,7 @@ ghost use mathlib.Core.Path.{_≡_};
 ghost use Prim.Native.Nat.{_+_, _*_, _≤_, _<_};
 ghost use lib.ListN.{length, getD};
 ghost use lib.Signed.{ltZ};
-ghost use Rattle.relation.specs.Comparing.{more, relBy, relFrom};
-ghost use Rattle.relation.proofs.Order.{cmp};
+ghost use Rattle.relation.specs.Comparing.{more, order, relBy, relFrom};
 ghost use Rattle.grid.specs.Accepted.{judgedNumber};
 ghost use Rattle.placing.specs.Placing.{at, naturalOf};
 ghost use Rattle.placing.specs.Checking.{lengthRefusal, someLate, restRefusal, checkRefusal, CheckSays};
@@ -121,7 +120,7 @@ fn is_less(start: i32, end: i32) -> bool
 
 // How x stands to y.
 fn compare(x: i32, y: i32) -> Compared
-    ensures { λ r. ⌜ orderOf r ≡ cmp x y ⌝ }
+    ensures { λ r. ⌜ orderOf r ≡ order (ltZ x y) (ltZ y x) ⌝ }
 {
     if x < y {
         return Compared::Less;

@@ -3,8 +3,9 @@ use mathlib.Core.Path.{_≡_, sym, ap, _∙_}
 use mathlib.Core.List.{List}
 use Prim.Native.Nat.{ℕ, _*_, _≤_}
 use native.Mathlib.Nat.{mul-le-mul}
-use lib.ListN.{length, take, drop}
-use lib.Seq.{length-take-le, take-at, take-all}
+use lib.ListN.{length, take}
+use lib.Seq.{length-take-le, take-at}
+use Rattle.grid.proofs.CellLaws.{copied-front}
 use Rattle.takes.specs.Steps.{ended}
 use Rattle.search.specs.Rule.{triedBy, tryAt}
 use native.Mathlib.Omega.{arith}
@@ -43,9 +44,7 @@ returns c =
     let m = s .args .n * s .args .n in
     let g = s .args .g .now in
     let fits : m ≤ length (copied .last .0) = omega (arith, copied .kept .0, s .pre .2 .fits) in
-    let same : take m (copied .last .0) ≡ g =
-    ap (take m) (copied .ensures) ∙ take-at (take m g) (drop m (s .args .cut .now)) m (length-take-le m g (omega (arith, s .pre .1)))
-    ∙ take-all m g (omega (arith, s .pre .1)) in
+    let same : take m (copied .last .0) ≡ g = ap (take m) (copied .ensures) ∙ copied-front g (s .args .cut .now) m (s .pre .1) in
     ap (λ (l : List ℕ). triedBy (ended (tried .result) l)) (take-at _ _ _ (tried .kept .1 .0 ∙ length-take-le m (copied .last .0) fits))
     ∙ tried .ensures ∙ ap (tryAt (s .args .n) (s .args .i, s .args .j) (s .args .r)) same
 

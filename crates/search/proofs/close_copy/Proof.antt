@@ -3,8 +3,9 @@ use mathlib.Core.Path.{_≡_, sym, ap, _∙_}
 use mathlib.Core.List.{List}
 use Prim.Native.Nat.{ℕ, _*_, _≤_}
 use native.Mathlib.Nat.{mul-le-mul}
-use lib.ListN.{length, take, drop}
-use lib.Seq.{length-take-le, take-at, take-all}
+use lib.ListN.{length, take}
+use lib.Seq.{length-take-le, take-at}
+use Rattle.grid.proofs.CellLaws.{copied-front}
 use Rattle.theory.specs.Allen.{allen}
 use Rattle.theory.specs.Line.{allPairs}
 use Rattle.theory.specs.Quick.{run}
@@ -38,20 +39,15 @@ same-length c = search needs
 
 returns : tie.Need-returns
 returns c =
-    let start = c .before .before .before .before .before .before .before .before .before .before in
-    let before = c .before .before .before .before .before .before .before .before .before .before in
-    let copy = c .before .before .before .before .before .before .copy in
-    let close-all = c .before .before .close-all in
-    let s = before in
+    let closing = c .before .before .close-all in
+    let copied = c .before .before .before .before .before .before .copy in
+    let s = c .before .before .before .before .before .before .before .before .before .before in
     let m = s .args .n * s .args .n in
     let g = s .args .g .now in
-    let copied = copy .last .0 in
-    let fits : m ≤ length copied = omega (arith, copy .kept .0, start .pre .2 .fits) in
-    let same : take m copied ≡ g =
-    ap (take m) (copy .ensures) ∙ take-at (take m g) (drop m (s .args .work .now)) m (length-take-le m g (omega (arith, s .pre .1 .long)))
-    ∙ take-all m g (omega (arith, s .pre .1 .long)) in
-    ap (λ (l : List ℕ). triedBy (ended (close-all .result) l)) (take-at _ _ _ (close-all .kept .1 .0 ∙ length-take-le m copied fits))
-    ∙ ap triedBy (close-all .ensures ∙ ap (λ (x : List ℕ). run allen (s .args .n) enough 0 x (allPairs (s .args .n))) same)
+    let fits : m ≤ length (copied .last .0) = omega (arith, copied .kept .0, s .pre .2 .fits) in
+    let same : take m (copied .last .0) ≡ g = ap (take m) (copied .ensures) ∙ copied-front g (s .args .work .now) m (s .pre .1 .long) in
+    ap (λ (l : List ℕ). triedBy (ended (closing .result) l)) (take-at _ _ _ (closing .kept .1 .0 ∙ length-take-le m (copied .last .0) fits))
+    ∙ ap triedBy (closing .ensures ∙ ap (λ (x : List ℕ). run allen (s .args .n) enough 0 x (allPairs (s .args .n))) same)
 
 pub close-copy-spec : {M : Type 1} → statement M
 close-copy-spec =
