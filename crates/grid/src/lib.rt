@@ -1,6 +1,6 @@
 // Grids: where a cell stands, and which grids are accepted.
 ghost use mathlib.Core.Path.{_≡_};
-ghost use mathlib.Core.Bool.{false};
+ghost use mathlib.Core.Bool.{false, _||_};
 ghost use mathlib.Core.List.{_++_};
 ghost use Prim.Native.Nat.{_*_, _≤_, _<_};
 ghost use lib.ListN.{length, take, drop, replicate};
@@ -49,18 +49,23 @@ pub fn put_both(g: &mut [u16], n: usize, i: usize, j: usize, a: u16)
     put(g, n, j, i, turned);
 }
 
-// Some cell is empty.
+pub fn either(a: bool, b: bool) -> bool
+    ensures { λ r. ⌜ r ≡ (a || b) ⌝ }
+{
+    if a { true } else { b }
+}
+
+// Some cell is empty. The loop goes on where one is found, so that the processor can look at eight cells at a time.
 pub fn some_empty(g: &[u16]) -> bool
     ensures { λ r. ⌜ r ≡ someEmpty (now (g .entry)) ⌝ }
 {
+    let mut found = false;
     let mut p = 0;
     while p < g.len() {
-        if g[p] == 0 {
-            return true;
-        }
+        found = either(found, g[p] == 0);
         p += 1;
     }
-    false
+    found
 }
 
 // Every cell becomes empty.
@@ -127,18 +132,17 @@ pub fn judge(g: &[u16], n: usize) -> Judged
     }
 }
 
-// Some cell is above 8191.
+// Some cell is above 8191. As above, the loop goes on to the end.
 fn some_large(g: &[u16]) -> bool
     ensures { λ r. ⌜ r ≡ someLarge (now (g .entry)) ⌝ }
 {
+    let mut found = false;
     let mut p = 0;
     while p < g.len() {
-        if ALL < g[p] {
-            return true;
-        }
+        found = either(found, ALL < g[p]);
         p += 1;
     }
-    false
+    found
 }
 
 // Some diagonal cell is not {eq}.

@@ -1,6 +1,5 @@
 // Plain closing of a grid: sweeps over all routes until one changes nothing.
 ghost use mathlib.Core.Path.{_≡_};
-ghost use mathlib.Core.Bool.{_||_};
 ghost use Prim.Native.Nat.{_<_};
 ghost use Rattle.relation.specs.HalfRows.{HalfRows};
 ghost use Rattle.grid.specs.Cells.{Held};
@@ -72,7 +71,7 @@ fn sweep_all(rows: &[u16; HALF_ROWS], g: &mut [u16], n: usize) -> Swept
         let Swept::Moved(now) = one else {
             return Swept::Dead;
         };
-        changed = either(changed, now);
+        changed = grid::either(changed, now);
         i += 1;
     }
     Swept::Moved(changed)
@@ -90,7 +89,7 @@ fn sweep_row(rows: &[u16; HALF_ROWS], g: &mut [u16], n: usize, a: usize) -> Swep
         let Swept::Moved(now) = one else {
             return Swept::Dead;
         };
-        changed = either(changed, now);
+        changed = grid::either(changed, now);
         j += 1;
     }
     Swept::Moved(changed)
@@ -108,7 +107,7 @@ fn sweep_cell(rows: &[u16; HALF_ROWS], g: &mut [u16], n: usize, a: usize, b: usi
         let Swept::Moved(now) = one else {
             return Swept::Dead;
         };
-        changed = either(changed, now);
+        changed = grid::either(changed, now);
         k += 1;
     }
     Swept::Moved(changed)
@@ -144,10 +143,4 @@ fn cut_by_route(
     }
     grid::put_both(g, n, a, b, new);
     Swept::Moved(true)
-}
-
-fn either(a: bool, b: bool) -> bool
-    ensures { λ r. ⌜ r ≡ (a || b) ⌝ }
-{
-    if a { true } else { b }
 }

@@ -13,37 +13,37 @@ use Rattle.relation.specs.Composition.{entry, composeRow}
 use Rattle.relation.specs.HalfRows.{halfSet, HalfRows}
 use Rattle.relation.specs.Filling.{halfRowAt, FilledTo, Column, Doubles, Begins, Half}
 use Rattle.relation.proofs.FillLaws.{filled-more}
-use Rattle.relation.proofs.UnionLaws.{union-small, union-or, union-mark, union-none}
+use Rattle.relation.proofs.UnionLaws.{union-or, union-mark, union-none}
 use Rattle.relation.proofs.Laws.{entry-small}
 
-halfSet-low : (q : ℕ) → q < 128 → halfSet q ≡ q
-halfSet-low q h = simp (lt-ltb q 128 h)
+halfSet-low : (q : ℕ) → q < 64 → halfSet q ≡ q
+halfSet-low q h = simp (lt-ltb q 64 h)
 
-halfSet-high : (q : ℕ) → 128 ≤ q → halfSet q ≡ (q - 128) * 128
-halfSet-high q h = simp (le-ltb q 128 h)
+halfSet-high : (q : ℕ) → 64 ≤ q → halfSet q ≡ (q - 64) * 64
+halfSet-high q h = simp (le-ltb q 64 h)
 
--- a row, from the first seven relations of b and the other six
-row-halves : (r b : ℕ) → bitOr (composeRow r (b % 128)) (composeRow r (b / 128 % 64 * 128)) ≡ composeRow r b
+-- a row, from the first six relations of b and the next six
+row-halves : (r b : ℕ) → bitOr (composeRow r (b % 64)) (composeRow r (b / 64 % 64 * 64)) ≡ composeRow r (b % 4096)
 unfolding composeRow
 row-halves r b =
-    let e : b / 128 % 64 * 128 + b % 128 ≡ b % 8192 = omega arith in
-    sym (union-or (entry r) (b % 128) (b / 128 % 64 * 128))
-    ∙ ap (λ (x : ℕ). composeRow r x) (or-shifted-r (b / 128 % 64) 7 (b % 128) (omega arith) ∙ e) ∙ union-small (entry r) b
+    let e : b / 64 % 64 * 64 + b % 64 ≡ b % 4096 = omega arith in
+    sym (union-or (entry r) (b % 64) (b / 64 % 64 * 64))
+    ∙ ap (λ (x : ℕ). composeRow r x) (or-shifted-r (b / 64 % 64) 6 (b % 64) (omega arith) ∙ e)
 
--- what the half rows give for r and b
+-- what the half rows give for r and b, but for the eq of b
 pub rows-give : (rows : List ℕ) (r b : ℕ) → HalfRows rows → r < 13
-    → bitOr (getD rows (b % 128 * 16 + r) 0) (getD rows ((128 + b / 128 % 64) * 16 + r) 0) ≡ composeRow r b
+    → bitOr (getD rows (b % 64 * 16 + r) 0) (getD rows ((64 + b / 64 % 64) * 16 + r) 0) ≡ composeRow r (b % 4096)
 rows-give rows r b w h =
-    let low = w .at r (b % 128) h (omega arith) in
-    let high = w .at r (128 + b / 128 % 64) h (omega arith) in
-    let e : 128 + b / 128 % 64 - 128 ≡ b / 128 % 64 = omega arith in
-    ap₂ bitOr (low ∙ ap (composeRow r) (halfSet-low (b % 128) (omega arith)))
-    (high ∙ ap (composeRow r) (halfSet-high (128 + b / 128 % 64) (omega arith) ∙ ap (λ (y : ℕ). y * 128) e))
+    let low = w .at r (b % 64) h (omega arith) in
+    let high = w .at r (64 + b / 64 % 64) h (omega arith) in
+    let e : 64 + b / 64 % 64 - 64 ≡ b / 64 % 64 = omega arith in
+    ap₂ bitOr (low ∙ ap (composeRow r) (halfSet-low (b % 64) (omega arith)))
+    (high ∙ ap (composeRow r) (halfSet-high (64 + b / 64 % 64) (omega arith) ∙ ap (λ (y : ℕ). y * 64) e))
     ∙ row-halves r b
 
 -- ---- filling them in
 
-pub filled-next : (rows : List ℕ) (p x : ℕ) → p < 3072 → FilledTo rows p → x ≡ halfRowAt p → FilledTo (set rows p x) (p + 1)
+pub filled-next : (rows : List ℕ) (p x : ℕ) → p < 2048 → FilledTo rows p → x ≡ halfRowAt p → FilledTo (set rows p x) (p + 1)
 filled-next rows p x h f e =
     record {
       long = simp length-set (f .long);
@@ -54,10 +54,10 @@ filled-next rows p x h f e =
 place-of : (q r : ℕ) → r < 16 → halfRowAt (q * 16 + r) ≡ composeRow r (halfSet q)
 place-of q r k = ap₂ (λ (x y : ℕ). composeRow y (halfSet x)) (digits-div q k) (digits-mod q k)
 
-pub rows-filled : (rows : List ℕ) → FilledTo rows 3072 → HalfRows rows
+pub rows-filled : (rows : List ℕ) → FilledTo rows 2048 → HalfRows rows
 rows-filled rows f = record { at = λ r q h k. f .so-far (q * 16 + r) (omega (arith, k, h)) ∙ place-of q r (omega (arith, h)) }
 
-pub first-half : Half 0 0 7
+pub first-half : Half 0 0 6
 first-half =
     record {
       low = omega arith;
@@ -69,15 +69,15 @@ first-half =
           ap (λ (x : ℕ). halfRowAt (x * 16 + r)) e ∙ place-of q r h ∙ ap (composeRow r) (halfSet-low q k ∙ z);
     }
 
-pub second-half : Half 128 7 13
+pub second-half : Half 64 6 12
 second-half =
     record {
       low = omega arith;
       high = omega arith;
       fits = omega arith;
       holds = λ q r k h.
-          let e : 128 + q - 128 ≡ q = omega arith in
-          place-of (128 + q) r h ∙ ap (composeRow r) (halfSet-high (128 + q) (omega arith) ∙ ap (λ (y : ℕ). y * 128) e);
+          let e : 64 + q - 64 ≡ q = omega arith in
+          place-of (64 + q) r h ∙ ap (composeRow r) (halfSet-high (64 + q) (omega arith) ∙ ap (λ (y : ℕ). y * 64) e);
     }
 
 module _ (at first last : ℕ) (half : Half at first last) where
@@ -128,5 +128,5 @@ module _ (at first last : ℕ) (half : Half at first last) where
       pub size-next : z * 2 ≡ 2 ^ (s + 1 - first)
       size-next = let n : s + 1 - first ≡ suc (s - first) = omega arith in rw (e, n) (omega (arith, pow-suc 2 (s - first)))
 
-      pub size-fits : at + z * 2 ≤ 192
+      pub size-fits : at + z * 2 ≤ 128
       size-fits = omega (arith, twice, half .fits)

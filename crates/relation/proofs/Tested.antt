@@ -3,6 +3,7 @@ use mathlib.Core.Path.{_≡_, refl, sym, ap, _∙_, subst}
 use mathlib.Core.Bool.{Bool, true, false, _&&_, _||_}
 use Prim.Native.Nat.{ℕ, zero, suc, _+_, _<_}
 use native.Mathlib.Nat.{not-suc-le-zero, le-refl}
+use native.Mathlib.Numerals.{add-one}
 use native.Mathlib.Decide.{ℕ-discrete}
 use native.Mathlib.Omega.{arith}
 use borrow.Author.Count.{below-more}
@@ -105,6 +106,17 @@ some-in (suc k) p i h t = go (p k) refl (ℕ-discrete i k) (some-in k p i)
     go true e d f = tt
     go false e (yes q) f = absurd (subst T (ap p q ∙ e) t)
     go false e (no n) f = f (omega arith) t
+
+-- one more number
+pub some-next : (k : ℕ) (p : ℕ → Bool) → (some k p || p k) ≡ some (k + 1) p
+unfolding some
+some-next k p = rw (add-one) (go (some k p) (p k))
+  where
+    go : (x y : Bool) → (x || y) ≡ elim y [ true ↦ true | false ↦ x ]
+    go true true = refl
+    go true false = refl
+    go false true = refl
+    go false false = refl
 
 -- two tests that pass together are equal
 pub both-ways : (p q : Bool) → (T p → T q) → (T q → T p) → p ≡ q

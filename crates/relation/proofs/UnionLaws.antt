@@ -166,35 +166,41 @@ module _ (f : ℕ → ℕ) (left r : ℕ) (l : left < 8192) (next : Next left r)
 
 -- ---- the invariant of every such loop, at its start, at a turn and at its end
 
-pub record Gathers (f : ℕ → ℕ) (a out left : ℕ) : Type 0 where
+-- what is gathered, with the union over the members left, is the whole
+pub record Gathers (f : ℕ → ℕ) (whole out left : ℕ) : Type 0 where
   pub out-lt : out < 8192
   pub left-lt : left < 8192
-  pub whole : unionOver f a ≡ bitOr out (unionOver f left)
+  pub adds-up : whole ≡ bitOr out (unionOver f left)
 
-pub gathers-start : (f : ℕ → ℕ) (a : ℕ) → Gathers f a 0 (a % 8192)
-gathers-start f a = record { out-lt = lit< tt; left-lt = omega arith; whole = sym (union-small f a) ∙ sym (or-zero-l (unionOver f (a % 8192))) }
+-- a loop over the members of a, with something gathered before
+pub gathers-from : (f : ℕ → ℕ) (a out : ℕ) → out < 8192 → Gathers f (bitOr out (unionOver f a)) out (a % 8192)
+gathers-from f a out l = record { out-lt = l; left-lt = omega arith; adds-up = ap (bitOr out) (sym (union-small f a)) }
 
-pub gathers-turn : (f : ℕ → ℕ) (a out left r x next : ℕ) → f r < 8192 → Next left r → Gathers f a out left → x ≡ f r
-    → next ≡ left - 2 ^ trailingZeros 16 left → Gathers f a (bitOr out x) next
-gathers-turn f a out left r x next m n g e d =
-    subst (λ (y : ℕ). Gathers f a (bitOr out x) y) (sym (d ∙ ap (λ (t : ℕ). left - 2 ^ t) (sym (n .is-lowest))))
-    (subst (λ (y : ℕ). Gathers f a (bitOr out y) (left - 2 ^ r)) (sym e)
+pub gathers-start : (f : ℕ → ℕ) (a : ℕ) → Gathers f (unionOver f a) 0 (a % 8192)
+gathers-start f a = subst (λ (w : ℕ). Gathers f w 0 (a % 8192)) (or-zero-l (unionOver f a)) (gathers-from f a 0 (lit< tt))
+
+pub gathers-turn : (f : ℕ → ℕ) (whole out left r x next : ℕ) → f r < 8192 → Next left r → Gathers f whole out left → x ≡ f r
+    → next ≡ left - 2 ^ trailingZeros 16 left → Gathers f whole (bitOr out x) next
+gathers-turn f whole out left r x next m n g e d =
+    subst (λ (y : ℕ). Gathers f whole (bitOr out x) y) (sym (d ∙ ap (λ (t : ℕ). left - 2 ^ t) (sym (n .is-lowest))))
+    (subst (λ (y : ℕ). Gathers f whole (bitOr out y) (left - 2 ^ r)) (sym e)
     (record {
       out-lt = or-lt 13 out (f r) (g .out-lt) m;
       left-lt = n .left-lt;
-      whole = g .whole ∙ union-turn f left r (g .left-lt) n out (g .out-lt) m;
+      adds-up = g .adds-up ∙ union-turn f left r (g .left-lt) n out (g .out-lt) m;
     }))
 
-pub gathers-end : (f : ℕ → ℕ) (a out left : ℕ) → left ≡ 0 → Gathers f a out left → out ≡ unionOver f a
-gathers-end f a out left z g =
-    sym (g .whole ∙ ap (bitOr out) (ap (unionOver f) z ∙ union-none f) ∙ or-zero-r out)
+module _ (f : ℕ → ℕ) (whole out left : ℕ) (g : Gathers f whole out left) where
+  pub gathers-end : left ≡ 0 → out ≡ whole
+  gathers-end z = sym (g .adds-up ∙ ap (bitOr out) (ap (unionOver f) z ∙ union-none f) ∙ or-zero-r out)
 
--- a set that lies inside what is gathered lies inside the whole
-pub gathers-holds : (f : ℕ → ℕ) (a out left set : ℕ) → Gathers f a out left → set < 65536 → bitAnd set out ≡ set → bitAnd set (unionOver f a) ≡ set
-gathers-holds f a out left set g h e = ap (bitAnd set) (g .whole) ∙ and-or set out (unionOver f left) h e
+  -- a set that lies inside what is gathered lies inside the whole
+  pub gathers-holds : (set : ℕ) → set < 65536 → bitAnd set out ≡ set → bitAnd set whole ≡ set
+  gathers-holds set h e = ap (bitAnd set) (g .adds-up) ∙ and-or set out (unionOver f left) h e
 
--- once all relations are gathered, they are the whole
-pub gathers-all : (f : ℕ → ℕ) (a out left : ℕ) → Gathers f a out left → out ≡ 8191 → out ≡ unionOver f a
-gathers-all f a out left g e =
-    e ∙ sym (gathers-holds f a out left 8191 g (lit< tt) (ap (bitAnd 8191) e ∙ and-self 8191))
-    ∙ and-comm 8191 (unionOver f a) ∙ and-mask (unionOver f a) 13 ∙ mod-eq-of-lt (union-lt f a)
+  -- once all relations are gathered, they are the whole
+  pub gathers-all : out ≡ 8191 → out ≡ whole
+  gathers-all e =
+      let l : whole < 8192 = rw (g .adds-up) (or-lt 13 out (unionOver f left) (g .out-lt) (union-lt f left)) in
+      e ∙ sym (gathers-holds 8191 (lit< tt) (ap (bitAnd 8191) e ∙ and-self 8191))
+      ∙ and-comm 8191 whole ∙ and-mask whole 13 ∙ mod-eq-of-lt l

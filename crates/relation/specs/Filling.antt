@@ -17,7 +17,7 @@ halfRowAt p = composeRow (p % 16) (halfSet (p / 16))
 
 -- the half rows are filled in up to entry p
 pub record FilledTo (rows : List ℕ) (p : ℕ) : Type 0 where
-  pub long : length rows ≡ 3072
+  pub long : length rows ≡ 2048
   pub so-far : Filled halfRowAt rows p
 
 -- each relation with relation s
@@ -40,5 +40,5 @@ pub record Begins (at : ℕ) : Type 0 where
 pub record Half (at first last : ℕ) : Type 0 where
   pub low : first ≤ last
   pub high : last ≤ 13
-  pub fits : at + 2 ^ (last - first) ≤ 192
+  pub fits : at + 2 ^ (last - first) ≤ 128
   pub holds : (q r : ℕ) → q < 2 ^ (last - first) → r < 16 → halfRowAt ((at + q) * 16 + r) ≡ composeRow r (q * 2 ^ first)

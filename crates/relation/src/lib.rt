@@ -1,14 +1,14 @@
 // Sets of the thirteen relations: converse and composition.
 ghost use mathlib.Core.Path.{_≡_};
-ghost use Prim.Native.Nat.{_+_, _-_, _*_, _^_, _≤_, _<_};
+ghost use Prim.Native.Nat.{_+_, _-_, _*_, _%_, _^_, _≤_, _<_};
 ghost use lib.Bits.{bitAnd};
 ghost use lib.Count.{trailingZeros};
 ghost use lib.ListN.{length};
-ghost use Rattle.relation.specs.Meaning.{exchanged};
+ghost use Rattle.relation.specs.Meaning.{exchanged, pickℕ};
 ghost use Rattle.relation.specs.Sets.{member};
 ghost use Rattle.relation.specs.Typed.{ListsExchanged};
 ghost use Rattle.relation.specs.Composition.{table, entry, converse, composeRow, compose};
-ghost use Rattle.relation.specs.HalfRows.{HalfRows};
+ghost use Rattle.relation.specs.HalfRows.{HalfRows, byEq};
 ghost use Rattle.relation.specs.Filling.{FilledTo, Column, Joins, Doubles, Begins, Half};
 ghost use Rattle.relation.specs.Answers.{saidOf, converseSaid, composeSaid};
 
@@ -89,17 +89,24 @@ pub fn without_lowest(a: u16) -> u16
     a & (a - 1)
 }
 
-// The converse of a set, by its members.
+// The mark of relation s where r is a member of a set, and else nothing. Without a branch: a wrong guess costs more than the rest.
+fn mark_where(a: u16, r: usize, s: usize) -> u16
+    requires { ⌜ (r < 13) × (s < 13) ⌝ }
+    ensures { λ x. ⌜ x ≡ pickℕ (member r a) (2 ^ s) 0 ⌝ }
+{
+    (a >> r) % 2 << s
+}
+
+// The converse of a set, by the relations one after the other.
 pub fn converse_of(a: u16) -> u16
     ensures { λ x. ⌜ x ≡ converse a ⌝ }
 {
     let list = EXCHANGED;
     let mut out: u16 = 0;
-    let mut left = a % 8192;
-    while left != 0 {
-        let r = lowest(left);
-        out |= mark(exchanged(&list, r));
-        left = without_lowest(left);
+    let mut r = 0;
+    while r < 13 {
+        out |= mark_where(a, r, exchanged(&list, r));
+        r += 1;
     }
     out
 }
@@ -138,7 +145,7 @@ fn compose_of(a: u16, b: u16) -> u16
 }
 
 // The places of the half rows, one for each half set, and the sets at each place: one for each relation, and none for the last three.
-pub const PLACES: usize = 192;
+pub const PLACES: usize = 128;
 
 pub const AT_PLACE: usize = 16;
 
@@ -174,7 +181,7 @@ fn column(t: &[[u16; 13]; 13], s: usize) -> [u16; AT_PLACE]
 
 // The sets at one place become those at another, each with its own of the column joined.
 fn join_column(rows: &mut [u16; HALF_ROWS], from: usize, to: usize, col: &[u16; AT_PLACE])
-    requires { ⌜ (from < to) × (to < 192) × FilledTo (now rows) (to * 16) × Joins from to (now col) ⌝ }
+    requires { ⌜ (from < to) × (to < 128) × FilledTo (now rows) (to * 16) × Joins from to (now col) ⌝ }
     ensures { λ _. ⌜ FilledTo (now (rows .exit)) ((to + 1) * 16) ⌝ }
 {
     let mut r = 0;
@@ -186,7 +193,7 @@ fn join_column(rows: &mut [u16; HALF_ROWS], from: usize, to: usize, col: &[u16; 
 
 // One more relation: so many places from `at` on come again after them, each with the relation's column joined.
 fn double(rows: &mut [u16; HALF_ROWS], at: usize, size: usize, col: &[u16; AT_PLACE])
-    requires { ⌜ (at + size * 2 ≤ 192) × FilledTo (now rows) ((at + size) * 16) × Doubles at size (now col) ⌝ }
+    requires { ⌜ (at + size * 2 ≤ 128) × FilledTo (now rows) ((at + size) * 16) × Doubles at size (now col) ⌝ }
     ensures { λ _. ⌜ FilledTo (now (rows .exit)) ((at + size * 2) * 16) ⌝ }
 {
     let mut q = 0;
@@ -198,7 +205,7 @@ fn double(rows: &mut [u16; HALF_ROWS], at: usize, size: usize, col: &[u16; AT_PL
 
 // The place of no relation at all.
 fn begin_half(rows: &mut [u16; HALF_ROWS], at: usize)
-    requires { ⌜ (at < 192) × FilledTo (now rows) (at * 16) × Begins at ⌝ }
+    requires { ⌜ (at < 128) × FilledTo (now rows) (at * 16) × Begins at ⌝ }
     ensures { λ _. ⌜ FilledTo (now (rows .exit)) ((at + 1) * 16) ⌝ }
 {
     let mut r = 0;
@@ -226,31 +233,39 @@ fn fill_half(t: &[[u16; 13]; 13], rows: &mut [u16; HALF_ROWS], at: usize, first:
 
 // Fills in the half rows, once for many compositions.
 pub fn fill_half_rows(rows: &mut [u16; HALF_ROWS])
-    requires { ⌜ length (now rows) ≡ 3072 ⌝ }
+    requires { ⌜ length (now rows) ≡ 2048 ⌝ }
     ensures { λ _. ⌜ HalfRows (now (rows .exit)) ⌝ }
 {
     let t = TABLE;
-    fill_half(&t, rows, 0, 0, 7);
-    fill_half(&t, rows, 128, 7, 13);
+    fill_half(&t, rows, 0, 0, 6);
+    fill_half(&t, rows, 64, 6, 12);
 }
 
-// One relation with a set, from two half rows.
+// What a with the eq of b allows, where b has it: all of a.
+fn by_eq(a: u16, b: u16) -> u16
+    ensures { λ x. ⌜ x ≡ byEq a b ⌝ }
+{
+    if has(b, 12) { a % 8192 } else { 0 }
+}
+
+// One relation with a set but for its eq, from two half rows.
 fn row_by_halves(rows: &[u16; HALF_ROWS], r: usize, b: u16) -> u16
     requires { ⌜ HalfRows (now rows) × (r < 13) ⌝ }
-    ensures { λ x. ⌜ x ≡ composeRow r b ⌝ }
+    ensures { λ x. ⌜ x ≡ composeRow r (b % 4096) ⌝ }
 {
-    let low = (b % 128) as usize;
-    let high = 128 + (b / 128 % 64) as usize;
+    let set = b as usize;
+    let low = set % 64;
+    let high = 64 + set / 64 % 64;
     rows[low * AT_PLACE + r] | rows[high * AT_PLACE + r]
 }
 
-// What a with b leaves of a set, from the half rows: for many calls. Mostly a member or two of a allow all of the set, and then
-// the others are not looked at.
+// What a with b leaves of a set, from the half rows: for many calls. The eq of b allows all of a at once. Mostly a member or two
+// of a then allow all of the set, and the others are not looked at.
 pub fn cut_by(rows: &[u16; HALF_ROWS], set: u16, a: u16, b: u16) -> u16
     requires { ⌜ HalfRows (now rows) ⌝ }
     ensures { λ x. ⌜ x ≡ bitAnd set (compose a b) ⌝ }
 {
-    let mut out: u16 = 0;
+    let mut out = by_eq(a, b);
     let mut left = a % 8192;
     while left != 0 {
         let r = lowest(left);

@@ -19,7 +19,7 @@ use Rattle.relation.proofs.Tested.{T-of, of-T}
 use Rattle.relation.proofs.Rank.{In as Among, here, there}
 use Rattle.relation.proofs.SetLaws.{mark-lt}
 use Rattle.relation.proofs.Relations.{relOf-lt, exactly-one, holds-found}
-use Rattle.relation.proofs.ExchangeLaws.{exchanged-lt, relOf-back, converse-twice}
+use Rattle.relation.proofs.ExchangeLaws.{exchanged-lt, relOf-back, converse-twice, converse-mark}
 use Rattle.grid.specs.Cells.{cell, putBoth}
 use Rattle.grid.proofs.CellLaws.{putBoth-same, cell-both-here, cell-both-mirror, cell-both-other}
 use Rattle.theory.specs.Allen.{allen}
@@ -35,7 +35,7 @@ use Rattle.theory.proofs.LineLaws.{pair-ok}
 use Rattle.theory.proofs.SettledLaws.{Right, LeavesGood, run-good}
 use Rattle.theory.proofs.QuickRight.{Fine, Full}
 use Rattle.theory.proofs.TryLaws.{try-nothing, cut-inside, resting, try-right, try-ends}
-use Rattle.theory.proofs.PlacedLaws.{member-only, mark-inside, inside-mark, only-mark, converse-mark, Uses, uses-more, closing-uses, empty-unused}
+use Rattle.theory.proofs.PlacedLaws.{member-only, mark-inside, inside-mark, only-mark, Uses, uses-more, closing-uses, empty-unused}
 use Rattle.theory.proofs.SearchLaws.{Searchable}
 use Rattle.placing.specs.Placing.{Meets, Scenario}
 use Rattle.placing.specs.Settling.{settles}

@@ -5,14 +5,13 @@ use native.Mathlib.Omega.{arith}
 use lib.Bits.{bitAnd, and-le-r}
 use lib.Dec.{T, eqb, eqb→eq, eqb-refl}
 use Rattle.relation.specs.Comparing.{relOf}
-use Rattle.relation.specs.Meaning.{Event, exchanged}
+use Rattle.relation.specs.Meaning.{Event}
 use Rattle.relation.specs.Sets.{member}
-use Rattle.relation.specs.Composition.{converse, compose}
+use Rattle.relation.specs.Composition.{compose}
 use Rattle.relation.proofs.Tested.{T-of, of-T}
 use Rattle.relation.proofs.SetLaws.{member-none, member-mark, mark-lt, and-inside, inside-and, same-inside}
 use Rattle.relation.proofs.LowestLaws.{some-member}
 use Rattle.relation.proofs.Relations.{relOf-lt}
-use Rattle.relation.proofs.ExchangeLaws.{exchanged-lt, exchanged-twice, member-converse, converse-lt}
 use Rattle.relation.proofs.Laws.{compose-placed}
 use Rattle.theory.specs.Allen.{allen}
 use Rattle.theory.specs.Closing.{Cells, Closed, Within, Closing}
@@ -43,21 +42,6 @@ only-mark r a h e nz =
     (record {
       each = λ s k v.
           subst (λ (x : ℕ). T (member x a)) (member-only r (m .0) h (m .1) (i .each (m .0) (m .1) (m .2)) ∙ sym (member-only r s h k v)) (m .2);
-    })
-
-pub converse-mark : (r : ℕ) → r < 13 → converse (2 ^ r) ≡ 2 ^ exchanged r
-converse-mark r h =
-    same-inside (converse (2 ^ r)) (2 ^ exchanged r) (converse-lt (2 ^ r)) (mark-lt (exchanged r) (exchanged-lt r h))
-    (record {
-      each = λ s k w.
-          let e = member-only r (exchanged s) h (exchanged-lt s k) (subst T (member-converse (2 ^ r) s k) w) in
-          subst (λ (x : ℕ). T (member x (2 ^ exchanged r))) (sym (ap exchanged e) ∙ exchanged-twice s k) (member-self (exchanged r) (exchanged-lt r h));
-    })
-    (record {
-      each = λ s k w.
-          let e = member-only (exchanged r) s (exchanged-lt r h) k w in
-          subst T (sym (member-converse (2 ^ r) s k))
-          (subst (λ (x : ℕ). T (member x (2 ^ r))) (sym (ap exchanged e ∙ exchanged-twice r h)) (member-self r h));
     })
 
 -- ---- the scenario of a placing

@@ -1,35 +1,38 @@
--- No cell passed so far is empty.
-use mathlib.Core.Path.{_≡_, sym, subst}
-use Prim.Native.Nat.{_-_, _≤_}
-use borrow.Author.Tests.{eq-eqb, ne-eqb}
+-- Whether one of the cells passed so far is empty.
+use mathlib.Core.Path.{_≡_, refl, ap, _∙_}
+use mathlib.Core.Bool.{Bool, _||_}
+use mathlib.Core.List.{List}
+use Prim.Native.Nat.{ℕ, _-_, _≤_}
 use lib.Dec.{eqb}
 use lib.ListN.{length, getD}
-use Rattle.relation.proofs.Tested.{NoneBelow, none-more, some-yes, some-no}
-use borrow.Author.Needs.{needs}
+use Rattle.relation.specs.Sets.{some}
+use Rattle.relation.proofs.Tested.{some-next}
 use native.Mathlib.Omega.{arith}
+use borrow.Author.Needs.{needs}
 use Rattle.grid.proofs.some_empty.Statement.{statement}
 use Rattle.grid.proofs.some_empty.Tie as tie
 
+abbrev empty : List ℕ → ℕ → Bool
+empty g k = eqb (getD g k 0) 0
+
 abbrev Inv-loop : tie.InvT-loop
-Inv-loop g p₀ p = (p ≤ length g) × NoneBelow (λ k. eqb (getD g k 0) 0) p
+Inv-loop g found₀ p₀ found p = (p ≤ length g) × (found ≡ some p (empty g))
 
 abbrev μ-loop : tie.MeasureT-loop
-μ-loop g p₀ p = length g - p
+μ-loop g found₀ p₀ found p = length g - p
 
 loop-holds : tie.Need-loop-holds Inv-loop μ-loop
-loop-holds c = (search needs, λ i h. absurd (omega arith))
+unfolding some
+loop-holds c = (search needs, refl)
 
-mul-if1 : tie.Need-mul-if1 Inv-loop μ-loop
-mul-if1 c = search needs
+mul-either : tie.Need-mul-either Inv-loop μ-loop
+mul-either c = search needs
 
-shared-slice-read-if1 : tie.Need-shared-slice-read-if1 Inv-loop μ-loop
-shared-slice-read-if1 c = search needs
+shared-slice-read-either : tie.Need-shared-slice-read-either Inv-loop μ-loop
+shared-slice-read-either c = search needs
 
-returns : tie.Need-returns Inv-loop μ-loop
-returns c =
-    let s = c .before .before .before .before in
-    let L = c .before .before .before .loop in
-    sym (some-yes (length (s .args .g .now)) (λ k. eqb (getD (s .args .g .now) k 0) 0) (L .p) (search needs) (eq-eqb _ _ (c .if1 .taken)))
+either-requires : tie.Need-either-requires Inv-loop μ-loop
+either-requires c κs = search needs
 
 add-p : tie.Need-add-p Inv-loop μ-loop
 add-p c = search needs
@@ -39,15 +42,16 @@ loop-less c = search needs
 
 loop-again : tie.Need-loop-again Inv-loop μ-loop
 loop-again c =
-    let s = c .before .before .before .before in
+    let g = c .before .before .before .before .before .args .g .now in
     let L = c .before .before .before .loop in
-    (search needs, none-more (λ k. eqb (getD (s .args .g .now) k 0) 0) (L .p) (L .inv .1) (ne-eqb _ _ (c .if1 .left)))
+    (search needs, c .either .ensures ∙ ap (λ (x : Bool). x || empty g (L .p)) (L .inv .1) ∙ some-next (L .p) (empty g))
 
-returns-2 : tie.Need-returns-2 Inv-loop μ-loop
-returns-2 c =
-    let g = c .before .before .args .g .now in
-    let e : c .before .loop .p ≡ length g = omega arith in
-    sym (some-no (length g) (λ k. eqb (getD g k 0) 0) (subst (NoneBelow (λ k. eqb (getD g k 0) 0)) e (c .before .loop .inv .1)))
+returns : tie.Need-returns Inv-loop μ-loop
+returns c =
+    let g = c .before .before .before .args .g .now in
+    let L = c .before .loop in
+    let e : L .p ≡ length g = omega arith in
+    L .inv .1 ∙ ap (λ (m : ℕ). some m (empty g)) e
 
 pub some-empty-spec : {M : Type 1} → statement M
 some-empty-spec =
@@ -56,10 +60,10 @@ some-empty-spec =
     Inv-loop
     μ-loop
     loop-holds
-    mul-if1
-    shared-slice-read-if1
-    returns
+    mul-either
+    shared-slice-read-either
+    either-requires
     add-p
     loop-less
     loop-again
-    returns-2)
+    returns)

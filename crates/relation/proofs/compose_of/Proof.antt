@@ -10,12 +10,13 @@ use Rattle.relation.proofs.compose_of.Statement.{statement}
 use Rattle.relation.proofs.compose_of.Tie as tie
 
 abbrev Inv-loop : tie.InvT-loop
-Inv-loop a b t out₀ left₀ out left = Gathers (λ r. composeRow r b) a out left
+Inv-loop a b t out₀ left₀ out left = Gathers (λ r. composeRow r b) (compose a b) out left
 
 abbrev μ-loop : tie.MeasureT-loop
 μ-loop a b t out₀ left₀ out left = left
 
 loop-holds : tie.Need-loop-holds Inv-loop μ-loop
+unfolding compose
 loop-holds c = gathers-start (λ r. composeRow r (c .args .b)) (c .args .a)
 
 lowest-requires : tie.Need-lowest-requires Inv-loop μ-loop
@@ -26,16 +27,15 @@ unfolding table
 compose-row-requires c κs = (next-of _ _ (c .before .before .loop-test .taken) (c .before .before .before .loop .inv .left-lt) (c .before .lowest .ensures) .small, refl)
 
 returns : tie.Need-returns Inv-loop μ-loop
-unfolding compose
 returns c =
     let row = c .before .compose-row in
     let lowest = c .before .before .before .lowest in
     let L = c .before .before .before .before .before .loop in
     let s = c .before .before .before .before .before .before .args in
     let n = next-of (L .left) (lowest .result) (c .before .before .before .before .loop-test .taken) (L .inv .left-lt) (lowest .ensures) in
-    let g = gathers-turn (λ r. composeRow r (s .b)) (s .a) (L .out) (L .left) (lowest .result) (row .result) (L .left - 2 ^ trailingZeros 16 (L .left))
+    let g = gathers-turn (λ r. composeRow r (s .b)) (compose (s .a) (s .b)) (L .out) (L .left) (lowest .result) (row .result) (L .left - 2 ^ trailingZeros 16 (L .left))
     (row-lt (lowest .result) (s .b)) n (L .inv) (row .ensures) refl in
-    gathers-all (λ r. composeRow r (s .b)) (s .a) _ _ g (c .if1 .taken)
+    gathers-all _ _ _ _ g (c .if1 .taken)
 
 without-lowest-requires : tie.Need-without-lowest-requires Inv-loop μ-loop
 without-lowest-requires c κs = search needs
@@ -53,15 +53,11 @@ loop-again c =
     let L = c .before .before .before .before .before .before .loop in
     let s = c .before .before .before .before .before .before .before .args in
     let n = next-of (L .left) (lowest .result) (c .before .before .before .before .before .loop-test .taken) (L .inv .left-lt) (lowest .ensures) in
-    gathers-turn (λ r. composeRow r (s .b)) (s .a) (L .out) (L .left) (lowest .result) (row .result) (c .without-lowest .result)
+    gathers-turn (λ r. composeRow r (s .b)) (compose (s .a) (s .b)) (L .out) (L .left) (lowest .result) (row .result) (c .without-lowest .result)
     (row-lt (lowest .result) (s .b)) n (L .inv) (row .ensures) (c .without-lowest .ensures)
 
 returns-2 : tie.Need-returns-2 Inv-loop μ-loop
-unfolding compose
-returns-2 c =
-    let s = c .before .before .args in
-    let L = c .before .loop in
-    gathers-end (λ r. composeRow r (s .b)) (s .a) (L .out) (L .left) (c .loop-test .left) (L .inv)
+returns-2 c = gathers-end _ _ _ _ (c .before .loop .inv) (c .loop-test .left)
 
 pub compose-of-spec : {M : Type 1} → statement M
 compose-of-spec =

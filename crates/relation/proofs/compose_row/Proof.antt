@@ -7,12 +7,13 @@ use Rattle.relation.proofs.compose_row.Statement.{statement}
 use Rattle.relation.proofs.compose_row.Tie as tie
 
 abbrev Inv-loop : tie.InvT-loop
-Inv-loop t r b out₀ left₀ out left = Gathers (entry r) b out left
+Inv-loop t r b out₀ left₀ out left = Gathers (entry r) (composeRow r b) out left
 
 abbrev μ-loop : tie.MeasureT-loop
 μ-loop t r b out₀ left₀ out left = left
 
 loop-holds : tie.Need-loop-holds Inv-loop μ-loop
+unfolding composeRow
 loop-holds c = gathers-start (entry (c .args .r)) (c .args .b)
 
 lowest-requires : tie.Need-lowest-requires Inv-loop μ-loop
@@ -50,13 +51,12 @@ loop-again c =
     let r = start .args .r in
     let s = lowest .result in
     let n = next-of (L .left) (lowest .result) (loop-test .taken) (L .inv .left-lt) (lowest .ensures) in
-    gathers-turn (entry r) (start .args .b) (L .out) (L .left) s _ (without-lowest .result)
+    gathers-turn (entry r) (composeRow r (start .args .b)) (L .out) (L .left) s _ (without-lowest .result)
     (entry-lt r s (start .pre .0) (n .small)) n (L .inv)
     (entry-read (start .args .t .now) r s (start .pre .1)) (without-lowest .ensures)
 
 returns : tie.Need-returns Inv-loop μ-loop
-unfolding composeRow
-returns c = gathers-end (entry (c .before .before .args .r)) (c .before .before .args .b) (c .before .loop .out) (c .before .loop .left) (c .loop-test .left) (c .before .loop .inv)
+returns c = gathers-end _ _ _ _ (c .before .loop .inv) (c .loop-test .left)
 
 pub compose-row-spec : {M : Type 1} → statement M
 compose-row-spec =

@@ -1,39 +1,48 @@
--- What is gathered so far lies inside the composition, so where it holds the whole set, all of the set is left.
-use mathlib.Core.Path.{refl, sym, ap}
-use Prim.Native.Nat.{_-_, _^_}
-use lib.Bits.{bitAnd}
+-- What is gathered so far lies inside the composition, so where it holds the whole set, all of the set is left. The eq of b comes first.
+use mathlib.Core.Path.{refl, sym, ap, _∙_, subst}
+use Prim.Native.Nat.{ℕ, _-_, _%_, _^_}
+use lib.Bits.{bitAnd, bitOr}
 use lib.Count.{trailingZeros}
 use Rattle.relation.specs.Composition.{composeRow, compose}
-use Rattle.relation.proofs.UnionLaws.{Gathers, gathers-start, gathers-turn, gathers-end, gathers-holds, next-of}
-use Rattle.relation.proofs.Laws.{row-lt}
+use Rattle.relation.proofs.UnionLaws.{Gathers, gathers-from, gathers-turn, gathers-end, gathers-holds, next-of}
+use Rattle.relation.proofs.Laws.{row-lt, byEq-lt, compose-apart}
 use borrow.Author.Needs.{needs}
 use Rattle.relation.proofs.cut_by.Statement.{statement}
 use Rattle.relation.proofs.cut_by.Tie as tie
 
 abbrev Inv-loop : tie.InvT-loop
-Inv-loop rows set a b out₀ left₀ out left = Gathers (λ r. composeRow r b) a out left
+Inv-loop rows set a b out₀ left₀ out left = Gathers (λ r. composeRow r (b % 4096)) (compose a b) out left
 
 abbrev μ-loop : tie.MeasureT-loop
 μ-loop rows set a b out₀ left₀ out left = left
 
+by-eq-requires : tie.Need-by-eq-requires Inv-loop μ-loop
+by-eq-requires c κs = search needs
+
 loop-holds : tie.Need-loop-holds Inv-loop μ-loop
-loop-holds c = gathers-start (λ r. composeRow r (c .args .b)) (c .args .a)
+unfolding compose
+loop-holds c =
+    let a = c .before .args .a in
+    let b = c .before .args .b in
+    subst (λ (w : ℕ). Gathers (λ r. composeRow r (b % 4096)) w (c .by-eq .result) (a % 8192))
+    (ap (λ (x : ℕ). bitOr x (compose a (b % 4096))) (c .by-eq .ensures) ∙ compose-apart a b)
+    (gathers-from (λ r. composeRow r (b % 4096)) a (c .by-eq .result) (rw (c .by-eq .ensures) (byEq-lt a b)))
 
 lowest-requires : tie.Need-lowest-requires Inv-loop μ-loop
 lowest-requires c κs = search needs
 
 row-by-halves-requires : tie.Need-row-by-halves-requires Inv-loop μ-loop
-row-by-halves-requires c κs = (c .before .before .before .pre, next-of _ _ (c .before .loop-test .taken) (c .before .before .loop .inv .left-lt) (c .lowest .ensures) .small)
+row-by-halves-requires c κs = (c .before .before .before .before .pre, next-of _ _ (c .before .loop-test .taken) (c .before .before .loop .inv .left-lt) (c .lowest .ensures) .small)
 
 returns : tie.Need-returns Inv-loop μ-loop
-unfolding compose
 returns c =
-    let s = c .before .before .before .before .before .args in
+    let s = c .before .before .before .before .before .before .args in
     let L = c .before .before .before .before .loop in
-    let n = next-of (L .left) (c .before .before .lowest .result) (c .before .before .before .loop-test .taken) (L .inv .left-lt) (c .before .before .lowest .ensures) in
-    let g = gathers-turn (λ r. composeRow r (s .b)) (s .a) (L .out) (L .left) (c .before .before .lowest .result) (c .before .row-by-halves .result) (L .left - 2 ^ trailingZeros 16 (L .left))
-    (row-lt (c .before .before .lowest .result) (s .b)) n (L .inv) (c .before .row-by-halves .ensures) refl in
-    sym (gathers-holds (λ r. composeRow r (s .b)) (s .a) _ _ (s .set) g (search needs) (c .if1 .taken))
+    let r = c .before .before .lowest .result in
+    let n = next-of (L .left) r (c .before .before .before .loop-test .taken) (L .inv .left-lt) (c .before .before .lowest .ensures) in
+    let g = gathers-turn (λ r. composeRow r (s .b % 4096)) _ (L .out) (L .left) r (c .before .row-by-halves .result) (L .left - 2 ^ trailingZeros 16 (L .left))
+    (row-lt r (s .b % 4096)) n (L .inv) (c .before .row-by-halves .ensures) refl in
+    sym (gathers-holds _ _ _ _ g (s .set) (search needs) (c .if1 .taken))
 
 without-lowest-requires : tie.Need-without-lowest-requires Inv-loop μ-loop
 without-lowest-requires c κs = search needs
@@ -45,19 +54,17 @@ loop-less c =
 
 loop-again : tie.Need-loop-again Inv-loop μ-loop
 loop-again c =
-    let s = c .before .before .before .before .before .before .args in
+    let s = c .before .before .before .before .before .before .before .args in
     let L = c .before .before .before .before .before .loop in
     let r = c .before .before .before .lowest .result in
     let n = next-of (L .left) r (c .before .before .before .before .loop-test .taken) (L .inv .left-lt) (c .before .before .before .lowest .ensures) in
-    gathers-turn (λ r. composeRow r (s .b)) (s .a) (L .out) (L .left) r (c .before .before .row-by-halves .result) (c .without-lowest .result)
-    (row-lt r (s .b)) n (L .inv) (c .before .before .row-by-halves .ensures) (c .without-lowest .ensures)
+    gathers-turn (λ r. composeRow r (s .b % 4096)) _ (L .out) (L .left) r (c .before .before .row-by-halves .result) (c .without-lowest .result)
+    (row-lt r (s .b % 4096)) n (L .inv) (c .before .before .row-by-halves .ensures) (c .without-lowest .ensures)
 
 returns-2 : tie.Need-returns-2 Inv-loop μ-loop
-unfolding compose
 returns-2 c =
-    let s = c .before .before .args in
     let L = c .before .loop in
-    ap (bitAnd (s .set)) (gathers-end (λ r. composeRow r (s .b)) (s .a) (L .out) (L .left) (c .loop-test .left) (L .inv))
+    ap (bitAnd (c .before .before .before .args .set)) (gathers-end _ _ _ _ (L .inv) (c .loop-test .left))
 
 pub cut-by-spec : {M : Type 1} → statement M
 cut-by-spec =
@@ -65,6 +72,7 @@ cut-by-spec =
     (tie.spec
     Inv-loop
     μ-loop
+    by-eq-requires
     loop-holds
     lowest-requires
     row-by-halves-requires

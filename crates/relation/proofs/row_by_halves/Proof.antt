@@ -1,14 +1,8 @@
--- The two places of the half rows give the row.
+-- The two places of the half rows give the row, but for eq.
 use Rattle.relation.proofs.HalfRowLaws.{rows-give}
 use borrow.Author.Needs.{needs}
 use Rattle.relation.proofs.row_by_halves.Statement.{statement}
 use Rattle.relation.proofs.row_by_halves.Tie as tie
-
-cast-low : tie.Need-cast-low
-cast-low c = search needs
-
-cast-high : tie.Need-cast-high
-cast-high c = search needs
 
 add-high : tie.Need-add-high
 add-high c = search needs
@@ -44,8 +38,6 @@ pub row-by-halves-spec : {M : Type 1} → statement M
 row-by-halves-spec =
     tie.close
     (tie.spec
-    cast-low
-    cast-high
     add-high
     mul-result
     add-result
