@@ -1,59 +1,67 @@
--- Laws of the words: the code's table is the definition's, row by row; one word of a field. Assumes nothing.
+-- Laws of the words: what the columns of the table hold; one word of a field. Assumes nothing.
 use Prim.Native.Nat.{ℕ, zero, suc, _+_, _-_, _≤_, _<_}
-use mathlib.Core.Path.{_≡_, refl, _∙_}
-use mathlib.Core.Bool.{Bool, true, false, cond}
+use mathlib.Core.Path.{_≡_, refl, ap, _∙_}
+use mathlib.Core.Bool.{Bool, true, false, cond, _&&_}
 use mathlib.Core.List.{List, [], _∷_, _++_, map}
 use native.Mathlib.Omega.{arith}
 use native.Mathlib.Numerals.{add-one}
 use lib.Bits.{bitOr}
-use lib.Dec.{eqb}
-use lib.ListN.{length, getD, take, drop, replicate, length-append, drop-of-length-le}
-use lib.Seq.{drop-cons, take-append-seam}
+use lib.Dec.{T, eqb, leb, leb→le}
+use lib.ListN.{length, getD, take, drop, replicate, drop-of-length-le, List·getD-map, List·getD-append}
+use lib.Seq.{drop-cons}
 use borrow.Author.Tests.{eq-eqb, ne-eqb}
 use Rattle.text.specs.Text.{bytes, split, same}
 use Rattle.text.specs.Steps.{PartEnd}
 use Rattle.text.proofs.PartLaws.{after-next, after-last}
 use Rattle.words.specs.Words.{Word, words, meansIn, meaning, comma, joined, areWords, unionFrom, union}
-use Rattle.words.specs.Steps.{unionWith}
-use Rattle.words.specs.declared.Word.{Word as Row}
+use Rattle.words.specs.Steps.{noWord, wordAt, filledUp, lettersColumn, lengthsColumn, setsColumn, unionWith}
 use Rattle.words.specs.declared.Union.the-variants.{Set, Not}
 
 -- ---- the table
-
--- the code's row of a word: its name filled up with spaces
-abbrev row : Word → Row
-row w = (w .name ++ replicate (9 - length (w .name)) 32, length (w .name), w .means)
-
-abbrev pub noWord : Word
-noWord = record { name = []; means = 0 }
-
-abbrev pub noRow : Row
-noRow = ([], 0, 0)
-
-row-at : (ws : List Word) (k : ℕ) → k < length ws → getD (map row ws) k noRow ≡ row (getD ws k noWord)
-row-at [] k h = absurd (omega arith)
-row-at (w ∷ ws) zero h = refl
-row-at (w ∷ ws) (suc k) h = row-at ws k (omega arith)
 
 pub seventeen : length words ≡ 17
 unfolding words
 seventeen = refl
 
--- a row holds a word
-pub record Holds (w : Word) (r : Row) : Type 0 where
-  pub fits : r .1 ≤ length (r .0)
-  pub name : take (r .1) (r .0) ≡ w .name
-  pub set : r .2 ≡ w .means
+-- no word has more than nine letters
+short : List Word → Bool
+short [] = true
+short (w ∷ ws) = leb (length (w .name)) 9 && short ws
 
-pub rows-hold : (k : ℕ) → k < 17 → Holds (getD words k noWord) (getD (map row words) k noRow)
-rows-hold k h =
-    rw (row-at words k (omega (arith, seventeen)))
-    (holds (getD words k noWord))
-  where
-    holds : (w : Word) → Holds w (row w)
-    holds w =
-        let spaces : List ℕ = replicate (9 - length (w .name)) 32 in
-        record { fits = omega (arith, length-append (w .name) spaces); name = take-append-seam (w .name) spaces; set = refl }
+both : (p q : Bool) → T (p && q) → T p × T q
+both true true t = (tt, tt)
+both true false t = absurd t
+both false q t = absurd t
+
+fits : (ws : List Word) → T (short ws) → (k : ℕ) → k < length ws → length (getD ws k noWord .name) ≤ 9
+unfolding short
+fits [] t k h = absurd (omega arith)
+fits (w ∷ ws) t zero h = leb→le (length (w .name)) 9 (both (leb (length (w .name)) 9) (short ws) t .0)
+fits (w ∷ ws) t (suc k) h = fits ws (both (leb (length (w .name)) 9) (short ws) t .1) k (omega arith)
+
+filled-at : (ws : List Word) (k : ℕ) → k < length ws → getD (map filledUp ws) k [] ≡ filledUp (getD ws k noWord)
+filled-at [] k h = absurd (omega arith)
+filled-at (w ∷ ws) zero h = refl
+filled-at (w ∷ ws) (suc k) h = filled-at ws k (omega arith)
+
+-- what the columns hold at place k, where they are lent too
+module _ (k : ℕ) where
+  pub set-at : getD setsColumn k 0 ≡ wordAt k .means
+  set-at = List·getD-map (λ (w : Word). w .means) words k noWord
+
+  pub length-at : (lengths : List ℕ) → lengths ≡ lengthsColumn → getD lengths k 0 ≡ length (wordAt k .name)
+  length-at lengths e = ap (λ (l : List ℕ). getD l k 0) e ∙ List·getD-map (λ (w : Word). length (w .name)) words k noWord
+
+  module _ (h : k < 17) where
+    pub word-fits : length (wordAt k .name) ≤ 9
+    unfolding short words
+    word-fits = fits words tt k h
+
+    pub letter-at : (letters : List (List ℕ)) (i : ℕ) → letters ≡ lettersColumn → i < length (wordAt k .name)
+        → getD (getD letters k []) i 0 ≡ getD (wordAt k .name) i 0
+    letter-at letters i e l =
+        ap (λ (t : List (List ℕ)). getD (getD t k []) i 0) e ∙ ap (λ (r : List ℕ). getD r i 0) (filled-at words k (omega (arith, h, seventeen)))
+        ∙ List·getD-append (wordAt k .name) (replicate (9 - length (wordAt k .name)) 32) 0 i l
 
 module _ (ws : List Word) (w : List ℕ) (k : ℕ) where
   pub word-hit : k < length ws → same (getD ws k noWord .name) w ≡ true → meansIn (drop k ws) w ≡ getD ws k noWord .means

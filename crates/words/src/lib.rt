@@ -1,47 +1,90 @@
 // The relation words and their sets.
 ghost use mathlib.Core.Path.{_≡_};
+ghost use Prim.Native.Nat.{_<_};
+ghost use Rattle.text.specs.Text.{same};
 ghost use Rattle.words.specs.Words.{meaning, joined};
-ghost use Rattle.words.specs.Steps.{unionWith};
-
-// A word: its letters, filled up with spaces, how many they are, and its set.
-struct Word([u8; 9], usize, u16);
+ghost use Rattle.words.specs.Steps.{wordAt, lettersColumn, lengthsColumn, unionWith};
 
 const COUNT: usize = 17;
 
-const WORDS: [Word; COUNT] = [
-    Word(*b"b        ", 1, 1),
-    Word(*b"bi       ", 2, 2),
-    Word(*b"m        ", 1, 4),
-    Word(*b"mi       ", 2, 8),
-    Word(*b"o        ", 1, 16),
-    Word(*b"oi       ", 2, 32),
-    Word(*b"s        ", 1, 64),
-    Word(*b"si       ", 2, 128),
-    Word(*b"d        ", 1, 256),
-    Word(*b"di       ", 2, 512),
-    Word(*b"f        ", 1, 1024),
-    Word(*b"fi       ", 2, 2048),
-    Word(*b"eq       ", 2, 4096),
-    Word(*b"any      ", 3, 8191),
-    Word(*b"meanwhile", 9, 8176),
-    Word(*b"within   ", 6, 256),
-    Word(*b"until    ", 5, 4),
+// The table of words, by columns: the thirteen names in the order of their numbers, and four further words. A table of structs
+// would be written out anew for each word that is read, field by field; a column is written eight bytes at a time.
+// The letters, filled up with spaces.
+const WORDS: [[u8; 9]; COUNT] = [
+    *b"b        ",
+    *b"bi       ",
+    *b"m        ",
+    *b"mi       ",
+    *b"o        ",
+    *b"oi       ",
+    *b"s        ",
+    *b"si       ",
+    *b"d        ",
+    *b"di       ",
+    *b"f        ",
+    *b"fi       ",
+    *b"eq       ",
+    *b"any      ",
+    *b"meanwhile",
+    *b"within   ",
+    *b"until    ",
+];
+
+// How many letters.
+const LENGTHS: [u8; COUNT] = [1, 2, 1, 2, 1, 2, 1, 2, 1, 2, 1, 2, 2, 3, 9, 6, 5];
+
+// The set.
+const SETS: [u16; COUNT] = [
+    1, // b
+    2, // bi
+    4, // m
+    8, // mi
+    16, // o
+    32, // oi
+    64, // s
+    128, // si
+    256, // d
+    512, // di
+    1024, // f
+    2048, // fi
+    4096, // eq
+    8191, // any
+    8176, // meanwhile
+    256, // within
+    4, // until
 ];
 
 const COMMA: u8 = b',';
+
+// The text is word k of the table.
+fn is_word(letters: &[[u8; 9]; COUNT], lengths: &[u8; COUNT], k: usize, w: &[u8]) -> bool
+    requires { ⌜ (k < 17) × (now letters ≡ lettersColumn) × (now lengths ≡ lengthsColumn) ⌝ }
+    ensures { λ r. ⌜ r ≡ same (wordAt k .name) (now (w .entry)) ⌝ }
+{
+    if lengths[k] as usize != w.len() {
+        return false;
+    }
+    let mut i = 0;
+    while i < w.len() {
+        if letters[k][i] != w[i] {
+            return false;
+        }
+        i += 1;
+    }
+    true
+}
 
 // The set of a word, or 0 where it is none.
 fn meaning_of(w: &[u8]) -> u16
     ensures { λ r. ⌜ r ≡ meaning (now (w .entry)) ⌝ }
 {
-    let table = WORDS;
+    let letters = WORDS;
+    let lengths = LENGTHS;
+    let sets = SETS;
     let mut k = 0;
     while k < COUNT {
-        let word = table[k];
-        let name = word.0;
-        let len = word.1;
-        if text::same_bytes(&name[..len], w) {
-            return word.2;
+        if is_word(&letters, &lengths, k, w) {
+            return sets[k];
         }
         k += 1;
     }
