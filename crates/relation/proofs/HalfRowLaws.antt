@@ -8,10 +8,10 @@ use borrow.Author.Tests.{lt-ltb, le-ltb}
 use lib.Arith.{digits-div, digits-mod}
 use lib.Bits.{bitOr, or-shifted-r}
 use lib.ListN.{getD, set, length-set}
-use lib.Pow.{pow-add, pow-mono, pow-pos, shl-lt}
+use lib.Pow.{pow-add, pow-mono, shl-lt}
 use Rattle.relation.specs.Composition.{entry, composeRow}
 use Rattle.relation.specs.HalfRows.{halfSet, HalfRows}
-use Rattle.relation.specs.Filling.{halfRowAt, FilledTo, Column, Doubles, Begins, Half}
+use Rattle.relation.specs.Filling.{halfRowAt, FilledTo, Column, Joins, Adds, Begins, Half}
 use Rattle.relation.proofs.FillLaws.{filled-more}
 use Rattle.relation.proofs.UnionLaws.{union-or, union-mark, union-none}
 use Rattle.relation.proofs.Laws.{entry-small}
@@ -57,10 +57,9 @@ place-of q r k = ap₂ (λ (x y : ℕ). composeRow y (halfSet x)) (digits-div q 
 pub rows-filled : (rows : List ℕ) → FilledTo rows 2048 → HalfRows rows
 rows-filled rows f = record { at = λ r q h k. f .so-far (q * 16 + r) (omega (arith, k, h)) ∙ place-of q r (omega (arith, h)) }
 
-pub first-half : Half 0 0 6
+pub first-half : Half 0 0
 first-half =
     record {
-      low = omega arith;
       high = omega arith;
       fits = omega arith;
       holds = λ q r k h.
@@ -69,10 +68,9 @@ first-half =
           ap (λ (x : ℕ). halfRowAt (x * 16 + r)) e ∙ place-of q r h ∙ ap (composeRow r) (halfSet-low q k ∙ z);
     }
 
-pub second-half : Half 64 6 12
+pub second-half : Half 64 6
 second-half =
     record {
-      low = omega arith;
       high = omega arith;
       fits = omega arith;
       holds = λ q r k h.
@@ -80,7 +78,18 @@ second-half =
           place-of (64 + q) r h ∙ ap (composeRow r) (halfSet-high (64 + q) (omega arith) ∙ ap (λ (y : ℕ). y * 64) e);
     }
 
-module _ (at first last : ℕ) (half : Half at first last) where
+-- relation s joins a set of relations below it
+with-mark : (r s y : ℕ) → s < 13 → y < 2 ^ s → composeRow r (2 ^ s + y) ≡ bitOr (composeRow r y) (entry r s)
+unfolding composeRow
+with-mark r s y k l =
+    let e : 1 * 2 ^ s ≡ 2 ^ s = omega arith in
+    ap (composeRow r) (ap (λ (x : ℕ). x + y) (sym e) ∙ sym (or-shifted-r 1 s y l)) ∙ union-or (entry r) y (1 * 2 ^ s)
+    ∙ ap (λ (x : ℕ). bitOr (composeRow r y) (composeRow r x)) e ∙ ap (bitOr (composeRow r y)) (union-mark (entry r) s k (entry-small r s k))
+
+twice : (m : ℕ) → m < 6 → 2 ^ m * 2 ≤ 64
+twice m h = let n : suc m ≤ 6 = omega arith in omega (arith, pow-suc 2 m, pow-mono n)
+
+module _ (at first : ℕ) (half : Half at first) where
   -- with no relation, a half begins
   pub half-begins : Begins at
   unfolding composeRow
@@ -89,44 +98,27 @@ module _ (at first last : ℕ) (half : Half at first last) where
         nothing = λ r h.
             let z : at ≡ at + 0 = omega arith in
             let n : 0 * 2 ^ first ≡ 0 = omega arith in
-            ap (λ (x : ℕ). halfRowAt (x * 16 + r)) z ∙ half .holds 0 r (pow-pos (last - first)) h ∙ ap (composeRow r) n ∙ union-none (entry r);
+            ap (λ (x : ℕ). halfRowAt (x * 16 + r)) z ∙ half .holds 0 r (omega arith) h ∙ ap (composeRow r) n ∙ union-none (entry r);
       }
 
-  -- with relation s, what stands there comes again, and what each relation with s allows is joined
-  module _ (s : ℕ) (from : first ≤ s) (to : s < last) where
-    abbrev size : ℕ
-    size = 2 ^ (s - first)
+  doubled : (m : ℕ) → m < 6 → Adds at (2 ^ m) (m + first)
+  doubled m h =
+      record {
+        small = omega (arith, half .high, h);
+        fits = omega (arith, half .fits, twice m h);
+        again = λ q r l k.
+            let small : q * 2 ^ first < 2 ^ (m + first) = shl-lt m first l in
+            ap (λ (x : ℕ). halfRowAt (x * 16 + r)) (add-assoc at (2 ^ m) q) ∙ half .holds (2 ^ m + q) r (omega (arith, twice m h, l)) k
+            ∙ ap (composeRow r) (add-mul (2 ^ m) q (2 ^ first) ∙ ap (λ (x : ℕ). x + q * 2 ^ first) (sym (pow-add 2 m first)))
+            ∙ with-mark r (m + first) (q * 2 ^ first) (omega (arith, half .high, h)) small
+            ∙ ap (λ (x : ℕ). bitOr x (entry r (m + first))) (sym (half .holds q r (omega (arith, twice m h, l)) k));
+      }
 
-    twice : size * 2 ≤ 2 ^ (last - first)
-    twice = let n : suc (s - first) ≤ last - first = omega arith in omega (arith, pow-suc 2 (s - first), pow-mono n)
+  -- each of its six relations doubles it: s is the one after m others
+  pub half-adds : (m s : ℕ) → m < 6 → s ≡ m + first → Adds at (2 ^ m) s
+  half-adds m s h e = rw e (doubled m h)
 
-    with-mark : (r y : ℕ) → y < 2 ^ s → composeRow r (2 ^ s + y) ≡ bitOr (composeRow r y) (entry r s)
-    unfolding composeRow
-    with-mark r y l =
-        let e : 1 * 2 ^ s ≡ 2 ^ s = omega arith in
-        let k : s < 13 = omega (arith, half .high) in
-        ap (composeRow r) (ap (λ (m : ℕ). m + y) (sym e) ∙ sym (or-shifted-r 1 s y l)) ∙ union-or (entry r) y (1 * 2 ^ s)
-        ∙ ap (λ (m : ℕ). bitOr (composeRow r y) (composeRow r m)) e ∙ ap (bitOr (composeRow r y)) (union-mark (entry r) s k (entry-small r s k))
-
-    shifted : size * 2 ^ first ≡ 2 ^ s
-    shifted = let e : s - first + first ≡ s = omega arith in sym (pow-add 2 (s - first) first) ∙ ap (λ (k : ℕ). 2 ^ k) e
-
-    doubled : (q r : ℕ) → q < size → r < 16 → halfRowAt ((at + size + q) * 16 + r) ≡ bitOr (halfRowAt ((at + q) * 16 + r)) (entry r s)
-    doubled q r l h =
-        let e : s - first + first ≡ s = omega arith in
-        let small : q * 2 ^ first < 2 ^ s = rw (← e) (shl-lt (s - first) first l) in
-        ap (λ (x : ℕ). halfRowAt (x * 16 + r)) (add-assoc at size q) ∙ half .holds (size + q) r (omega (arith, twice)) h
-        ∙ ap (composeRow r) (add-mul size q (2 ^ first) ∙ ap (λ (m : ℕ). m + q * 2 ^ first) shifted)
-        ∙ with-mark r (q * 2 ^ first) small ∙ ap (λ (m : ℕ). bitOr m (entry r s)) (sym (half .holds q r (omega (arith, twice)) h))
-
-    -- of the code's size and column
-    module _ (z : ℕ) (e : z ≡ size) where
-      pub half-doubles : (col : List ℕ) → Column s col → Doubles at z col
-      half-doubles col c =
-          rw e (record { again = λ q l. record { at = λ r h. doubled q r l h ∙ ap (bitOr (halfRowAt ((at + q) * 16 + r))) (sym (c .at r h)) } })
-
-      pub size-next : z * 2 ≡ 2 ^ (s + 1 - first)
-      size-next = let n : s + 1 - first ≡ suc (s - first) = omega arith in rw (e, n) (omega (arith, pow-suc 2 (s - first)))
-
-      pub size-fits : at + z * 2 ≤ 128
-      size-fits = omega (arith, twice, half .fits)
+-- a column joined is what a relation adds
+pub adds-joins : (at size s q : ℕ) (col : List ℕ) → Adds at size s → Column s col → q < size → Joins (at + q) (at + size + q) col
+adds-joins at size s q col a c l =
+    record { at = λ r h. a .again q r l h ∙ ap (bitOr (halfRowAt ((at + q) * 16 + r))) (sym (c .at r h)) }

@@ -28,17 +28,18 @@ pub record Column (s : ℕ) (col : List ℕ) : Type 0 where
 pub record Joins (from to : ℕ) (col : List ℕ) : Type 0 where
   pub at : (r : ℕ) → r < 16 → halfRowAt (to * 16 + r) ≡ bitOr (halfRowAt (from * 16 + r)) (getD col r 0)
 
--- as many places after those from `at` on hold what they hold, with the column joined
-pub record Doubles (at size : ℕ) (col : List ℕ) : Type 0 where
-  pub again : (q : ℕ) → q < size → Joins (at + q) (at + size + q) col
+-- as many places after those from `at` on hold what they hold, each with what relation s allows joined
+pub record Adds (at size s : ℕ) : Type 0 where
+  pub small : s < 13
+  pub fits : at + size * 2 ≤ 128
+  pub again : (q r : ℕ) → q < size → r < 16 → halfRowAt ((at + size + q) * 16 + r) ≡ bitOr (halfRowAt ((at + q) * 16 + r)) (entry r s)
 
 -- the place of no relation holds nothing
 pub record Begins (at : ℕ) : Type 0 where
   pub nothing : (r : ℕ) → r < 16 → halfRowAt (at * 16 + r) ≡ 0
 
--- from `at` on stands each set of the relations from first to before last
-pub record Half (at first last : ℕ) : Type 0 where
-  pub low : first ≤ last
-  pub high : last ≤ 13
-  pub fits : at + 2 ^ (last - first) ≤ 128
-  pub holds : (q r : ℕ) → q < 2 ^ (last - first) → r < 16 → halfRowAt ((at + q) * 16 + r) ≡ composeRow r (q * 2 ^ first)
+-- from `at` on stands each set of the six relations from first on
+pub record Half (at first : ℕ) : Type 0 where
+  pub high : first + 6 ≤ 13
+  pub fits : at + 64 ≤ 128
+  pub holds : (q r : ℕ) → q < 64 → r < 16 → halfRowAt ((at + q) * 16 + r) ≡ composeRow r (q * 2 ^ first)

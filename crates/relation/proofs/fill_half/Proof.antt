@@ -1,89 +1,77 @@
--- The half doubles with each relation.
-use mathlib.Core.Path.{_≡_, ap, _∙_, subst}
-use Prim.Native.Nat.{ℕ, _+_, _*_, _-_, _^_, _≤_}
-use lib.Pow.{pow-pos}
-use Rattle.relation.specs.Filling.{FilledTo}
-use Rattle.relation.proofs.HalfRowLaws.{half-begins, half-doubles, size-next, size-fits}
+-- The half doubles with each of its six relations.
+use Rattle.relation.proofs.HalfRowLaws.{half-begins, half-adds}
 use native.Mathlib.Omega.{arith}
 use borrow.Author.Needs.{needs}
 use Rattle.relation.proofs.fill_half.Statement.{statement}
 use Rattle.relation.proofs.fill_half.Tie as tie
 
-abbrev Inv-loop : tie.InvT-loop
-Inv-loop t rows₀ at first last size₀ s₀ rows size s =
-    (first ≤ s) × (s ≤ last) × (size ≡ 2 ^ (s - first)) × FilledTo rows ((at + size) * 16)
-
-abbrev μ-loop : tie.MeasureT-loop
-μ-loop t rows₀ at first last size₀ s₀ rows size s = last - s
-
-begin-half-requires : tie.Need-begin-half-requires Inv-loop μ-loop
+begin-half-requires : tie.Need-begin-half-requires
 begin-half-requires c κs =
     let s = c .before in
-    (omega (arith, s .pre .1 .fits, pow-pos (s .args .last - s .args .first)), s .pre .2, half-begins _ _ _ (s .pre .1))
+    (omega (arith, s .pre .1 .fits), s .pre .2, half-begins _ _ (s .pre .1))
 
-loop-holds : tie.Need-loop-holds Inv-loop μ-loop
-loop-holds c =
-    let s = c .before .before in
-    let z : s .args .first - s .args .first ≡ 0 = omega arith in
-    (omega arith, s .pre .1 .low, rw z, c .begin-half .ensures)
+add-relation-requires : tie.Need-add-relation-requires
+add-relation-requires c κs =
+    let s = c .before .before .before in
+    (s .pre .0, c .before .begin-half .ensures, half-adds _ _ (s .pre .1) 0 _ (omega arith) (omega arith))
 
-column-requires : tie.Need-column-requires Inv-loop μ-loop
-column-requires c κs =
-    let s = c .before .before .before .before .pre in
-    (s .0, omega (arith, s .1 .high, c .loop-test .taken))
+add-add-relation : tie.Need-add-add-relation
+add-add-relation c = search needs
 
-double-requires : tie.Need-double-requires Inv-loop μ-loop
-double-requires c κs =
-    let L = c .before .before .before .before .loop in
-    let to = c .before .before .before .loop-test .taken in
-    let half = c .before .before .before .before .before .before .before .pre .1 in (
-      size-fits _ _ _ half (L .s) (L .inv .0) to (L .size) (L .inv .2),
-      L .inv .3,
-      half-doubles _ _ _ half (L .s) (L .inv .0) to (L .size) (L .inv .2) _ (c .before .before .column .ensures),
-    )
+add-relation-requires-2 : tie.Need-add-relation-requires-2
+add-relation-requires-2 c κs =
+    let s = c .before .before .before .before .before in
+    (s .pre .0, c .before .add-relation .ensures, half-adds _ _ (s .pre .1) 1 _ (omega arith) (omega arith))
 
-mul-size : tie.Need-mul-size Inv-loop μ-loop
-mul-size c =
-    let L = c .before .before .before .before .before .loop in
-    let half = c .before .before .before .before .before .before .before .before .pre .1 in
-    omega (arith, size-fits _ _ _ half (L .s) (L .inv .0) (c .before .before .before .before .loop-test .taken) (L .size) (L .inv .2))
+add-add-relation-2 : tie.Need-add-add-relation-2
+add-add-relation-2 c = search needs
 
-add-s : tie.Need-add-s Inv-loop μ-loop
-add-s c = search needs
+add-relation-requires-3 : tie.Need-add-relation-requires-3
+add-relation-requires-3 c κs =
+    let s = c .before .before .before .before .before .before .before in
+    (s .pre .0, c .before .add-relation2 .ensures, half-adds _ _ (s .pre .1) 2 _ (omega arith) (omega arith))
 
-loop-less : tie.Need-loop-less Inv-loop μ-loop
-loop-less c = search needs
+add-add-relation-3 : tie.Need-add-add-relation-3
+add-add-relation-3 c = search needs
 
-loop-again : tie.Need-loop-again Inv-loop μ-loop
-loop-again c =
-    let L = c .before .before .before .before .before .loop in
-    let to = c .before .before .before .before .loop-test .taken in
-    let half = c .before .before .before .before .before .before .before .before .pre .1 in (
-      omega (arith, L .inv .0),
-      omega (arith, to),
-      size-next _ _ _ half (L .s) (L .inv .0) to (L .size) (L .inv .2),
-      c .double .ensures,
-    )
+add-relation-requires-4 : tie.Need-add-relation-requires-4
+add-relation-requires-4 c κs =
+    let s = c .before .before .before .before .before .before .before .before .before in
+    (s .pre .0, c .before .add-relation3 .ensures, half-adds _ _ (s .pre .1) 3 _ (omega arith) (omega arith))
 
-returns : tie.Need-returns Inv-loop μ-loop
-returns c =
-    let s = c .before .before .before .before .args in
-    let L = c .before .loop in
-    let e : L .s ≡ s .last = omega (arith, L .inv .1, c .loop-test .left) in
-    subst (FilledTo _) (ap (λ (k : ℕ). (s .at + k) * 16) (L .inv .2 ∙ ap (λ (m : ℕ). 2 ^ (m - s .first)) e)) (L .inv .3)
+add-add-relation-4 : tie.Need-add-add-relation-4
+add-add-relation-4 c = search needs
+
+add-relation-requires-5 : tie.Need-add-relation-requires-5
+add-relation-requires-5 c κs =
+    let s = c .before .before .before .before .before .before .before .before .before .before .before in
+    (s .pre .0, c .before .add-relation4 .ensures, half-adds _ _ (s .pre .1) 4 _ (omega arith) (omega arith))
+
+add-add-relation-5 : tie.Need-add-add-relation-5
+add-add-relation-5 c = search needs
+
+add-relation-requires-6 : tie.Need-add-relation-requires-6
+add-relation-requires-6 c κs =
+    let s = c .before .before .before .before .before .before .before .before .before .before .before .before .before in
+    (s .pre .0, c .before .add-relation5 .ensures, half-adds _ _ (s .pre .1) 5 _ (omega arith) (omega arith))
+
+returns : tie.Need-returns
+returns c = search needs
 
 pub fill-half-spec : {M : Type 1} → statement M
 fill-half-spec =
     tie.close
     (tie.spec
-    Inv-loop
-    μ-loop
     begin-half-requires
-    loop-holds
-    column-requires
-    double-requires
-    mul-size
-    add-s
-    loop-less
-    loop-again
+    add-relation-requires
+    add-add-relation
+    add-relation-requires-2
+    add-add-relation-2
+    add-relation-requires-3
+    add-add-relation-3
+    add-relation-requires-4
+    add-add-relation-4
+    add-relation-requires-5
+    add-add-relation-5
+    add-relation-requires-6
     returns)
