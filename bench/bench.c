@@ -3,9 +3,9 @@
 // Other work slows a machine for milliseconds at a time. So a case takes many short samples, in turn by the one
 // program and the other, and its figure is the median of the ratios of two samples side by side: what slows a
 // machine meets both of them, or spoils the ratios of a few. The quartiles of these ratios are the spread.
-// A round goes over so many inputs that it takes a millisecond or nearly so. With a few inputs over and over, a
-// processor learns which way each branch goes, more or less of it as other work leaves it room, and so a figure
-// would hang on that.
+// A round goes over many inputs, so that a sample of a millisecond repeats none or few of them. With a few inputs
+// over and over, a processor learns which way each branch goes, more or less of it as other work leaves it room,
+// and a figure would hang on that.
 // The folder has each program in four layouts, proved_0.so to proved_3.so and c_0.so to c_3.so: the same code,
 // each time 1,024 bytes further on in its page. Under the emulator a jump to another page costs many times one
 // within a page, and a figure would hang on where a loop happens to lie. So for each case each program runs in
@@ -515,7 +515,8 @@ static struct figures in_turn(struct job a, struct job b) {
         ratio[k] = first / second;
     }
     sort(ratio, n);
-    return (struct figures){{least[0] / p.rounds, least[1] / p.rounds}, ratio[n / 2], ratio[n / 4], ratio[n - 1 - n / 4]};
+    for (int side = 0; side < 2; side++) least[side] /= p.rounds;
+    return (struct figures){{least[0], least[1]}, ratio[n / 2], ratio[n / 4], ratio[n - 1 - n / 4]};
 }
 
 static struct figures timed(round *go) { return in_turn((struct job){go, PROVED}, (struct job){go, PLAIN_C}); }
@@ -704,8 +705,9 @@ void begin(char **stack) {
     load_all(stack[2]);
     agree_on_grids(5000);
     agree_on_sheets(5000);
-    printf("A ratio is the proved function's time over the C function's: the median over %d pairs of samples, taken\n", SAMPLES);
-    printf("side by side, or over %d where one takes long. A quarter of the pairs lies below the spread, a quarter above.\n", FEWER);
+    printf("A ratio is the proved function's time over the C function's: the median of the ratios of two samples\n");
+    printf("side by side, over %d such pairs, or %d where a sample takes long. The spread is from the lower\n", SAMPLES, FEWER);
+    printf("quartile of these ratios to the upper.\n");
     measure_composition();
     for (int n = 8; n <= 32; n *= 2) for (int kind = 0; kind < 3; kind++) measure_quick(n, kind);
     for (int n = 8; n <= 32; n *= 2) for (int kind = 0; kind < 3; kind++) measure_plain(n, kind);
