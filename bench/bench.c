@@ -1,9 +1,15 @@
-// bench FOLDER: times the proved functions and the plain C ones in one process, in turn, on the same inputs.
+// bench FOLDER: times the proved functions and the plain C ones in one process, on the same inputs.
 // Before a case is timed, both must give the same answers and leave the same in every lent room.
+// Other work slows a machine for milliseconds at a time. So a case takes many short samples, in turn by the one
+// program and the other, and its figure is the median of the ratios of two samples side by side: what slows a
+// machine meets both of them, or spoils the ratios of a few. The quartiles of these ratios are the spread.
+// A round goes over many inputs, so that a sample of a millisecond repeats none or few of them. With a few inputs
+// over and over, a processor learns which way each branch goes, more or less of it as other work leaves it room,
+// and a figure would hang on that.
 // The folder has each program in four layouts, proved_0.so to proved_3.so and c_0.so to c_3.so: the same code,
 // each time 1,024 bytes further on in its page. Under the emulator a jump to another page costs many times one
 // within a page, and a figure would hang on where a loop happens to lie. So for each case each program runs in
-// the layout that suits it best.
+// the layout that suits it best, by the least of several timings of each.
 #include "measured.h"
 
 struct timespec { long seconds, nanoseconds; };
@@ -16,7 +22,10 @@ int snprintf(char *, u64, const char *, ...);
 int fflush(void *);
 void exit(int);
 
-enum { PROVED, PLAIN_C, PROGRAMS, LAYOUTS = 4, SAMPLES = 9, GRIDS = 32, SHEETS = 8, PAIRS = 1024, LEAST = 4000000 };
+enum { PROVED, PLAIN_C, PROGRAMS, LAYOUTS = 4, SHEETS = 8, LONG_SHEETS = 2, PAIRS = 16384 };
+
+// The kinds of a search's answer.
+enum { PLACED, NONE, GAVE_UP, REFUSED, ANSWERS };
 
 struct functions {
     compose_function *compose;
@@ -70,11 +79,17 @@ static u32 below(u32 most) {
 
 static u16 pairs[PAIRS][2];
 
-static struct { int n, count; u16 cells[GRIDS][CELLS]; } grids;
+// Grids of n events, one after the other.
+static struct { int n, count; u16 cells[16 * CELLS]; } grids;
+
+static u16 *grid(int k) { return grids.cells + k * grids.n * grids.n; }
+
+// So many grids are made at most where few of them are chosen.
+enum { MADE = 20000 };
 
 struct text { u64 bytes; u8 at[SHEET + 1]; };
 
-static struct { int count; struct text sheet[SHEETS]; } sheets;
+static struct text sheets[SHEETS];
 
 static int relation_of(const int *x, const int *y) {
     if (x[1] < y[0]) return 0;
@@ -100,18 +115,27 @@ static u16 dense(u16 mark) { return told(mark, 90); }
 // Every set is added to the true relation equally often.
 static u16 all_sets(u16 mark) { return told(mark, 100); }
 
-// As in planning: nothing is said of three pairs in four, and to the others up to three relations are added.
-static u16 planning(u16 mark) {
-    if (below(100) < 75) return ALL;
-    for (u32 more = below(4); more; more--) {
-        u16 set;
-        do set = mark | 1 << below(13); while (set == mark);
-        mark = set;
+// A set with so many more relations.
+static u16 widened(u16 set, u32 more) {
+    for (; more; more--) {
+        u16 wider;
+        do wider = set | 1 << below(13); while (wider == set);
+        set = wider;
     }
-    return mark;
+    return set;
 }
 
-// A grid that a random placing meets.
+// As in planning: nothing is said of three pairs in four, and to the others up to three relations are added.
+static u16 planning(u16 mark) { return below(100) < 75 ? ALL : widened(mark, below(4)); }
+
+// Six or seven relations, whether the true one is among them or not. Where an event has such a set with 9.5 others
+// on average, about as many grids are met by a placing as not, and the search goes back most.
+static u16 half_sets(u16 mark) {
+    (void)mark;
+    return below(10 * (grids.n - 1)) < 95 ? widened(0, 6 + below(2)) : ALL;
+}
+
+// A grid of what is said of a random placing.
 static void make_grid(u16 *g, int n, say *saying) {
     int event[MOST][2];
     for (int i = 0; i < n; i++) {
@@ -126,26 +150,35 @@ static void make_grid(u16 *g, int n, say *saying) {
     }
 }
 
-static void make_grids(int n, int count, say *saying) {
+// Four grids of 32 events take about as long as so many of n.
+static int grids_of(int n) { return 4 * MOST * MOST * MOST / (n * n * n); }
+
+static void make_grids(int n, say *saying) {
     seed(7 + n);
     grids.n = n;
-    grids.count = count;
-    for (int k = 0; k < count; k++) make_grid(grids.cells[k], n, saying);
+    grids.count = grids_of(n);
+    for (int k = 0; k < grids.count; k++) make_grid(grid(k), n, saying);
 }
 
-// Grids as in planning, of which each is placed; in exactly so many tries where that is asked.
-static void make_placed_grids(int n, int count, u32 tries) {
+// Grids of which the search by the C program has an answer of one kind, after so many tries.
+static void choose_grids(int n, int count, say *saying, u64 kind, u32 least, u32 most) {
     int room[2 * MOST];
     seed(11 + n);
     grids.n = n;
     grids.count = 0;
-    while (grids.count < count) {
-        u16 *g = grids.cells[grids.count];
-        make_grid(g, n, planning);
+    for (int made = 0; made < MADE && grids.count < count; made++) {
+        u16 *g = grid(grids.count);
+        make_grid(g, n, saying);
         u64 said = program[PLAIN_C]->find_placing(g, n * n, n, ALLOWANCE, room, 2 * n);
-        if (said >> 32 == 0 && (!tries || said == tries)) grids.count++;
+        if (said >> 32 == kind && (u32)said >= least && (u32)said <= most) grids.count++;
+    }
+    if (grids.count < count) {
+        printf("too few grids, n = %d, have an answer of kind %lu after %u to %u tries\n", n, kind, least, most);
+        exit(2);
     }
 }
+
+static void make_placed_grids(int n, int count) { choose_grids(n, count, planning, PLACED, 0, ALLOWANCE); }
 
 // ---- random sheets
 
@@ -267,7 +300,7 @@ static void quick_round(const struct functions *by) {
     int n = grids.n;
     for (int k = 0; k < grids.count; k++) {
         u16 g[CELLS];
-        copy(g, grids.cells[k], n * n);
+        copy(g, grid(k), n * n);
         sink = by->quick_close(g, n * n, n, ENOUGH);
     }
 }
@@ -276,7 +309,7 @@ static void plain_round(const struct functions *by) {
     int n = grids.n;
     for (int k = 0; k < grids.count; k++) {
         u16 g[CELLS];
-        copy(g, grids.cells[k], n * n);
+        copy(g, grid(k), n * n);
         sink = by->plain_close(g, n * n, n);
     }
 }
@@ -284,19 +317,21 @@ static void plain_round(const struct functions *by) {
 static void search_round(const struct functions *by) {
     int n = grids.n, room[2 * MOST];
     for (int k = 0; k < grids.count; k++)
-        sink = by->find_placing(grids.cells[k], n * n, n, ALLOWANCE, room, 2 * n);
+        sink = by->find_placing(grid(k), n * n, n, ALLOWANCE, room, 2 * n);
 }
 
-static void read_round(const struct functions *by) {
+static void read_some(const struct functions *by, int from, int to) {
     u16 room[CELLS];
-    for (int k = 0; k < sheets.count; k++)
-        sink = by->read_sheet(sheets.sheet[k].at, sheets.sheet[k].bytes, room, CELLS);
+    for (int k = from; k < to; k++) sink = by->read_sheet(sheets[k].at, sheets[k].bytes, room, CELLS);
 }
+
+// The long sheets come first, and after them as many that are half as long.
+static void read_long_round(const struct functions *by) { read_some(by, 0, LONG_SHEETS); }
+static void read_half_round(const struct functions *by) { read_some(by, LONG_SHEETS, 2 * LONG_SHEETS); }
 
 static void place_round(const struct functions *by) {
     u8 room[PRINTED];
-    for (int k = 0; k < sheets.count; k++)
-        sink = by->place(sheets.sheet[k].at, sheets.sheet[k].bytes, room, PRINTED);
+    for (int k = 0; k < SHEETS; k++) sink = by->place(sheets[k].at, sheets[k].bytes, room, PRINTED);
 }
 
 // ---- both must agree
@@ -408,7 +443,14 @@ static void agree_on_sheets(int count) {
 
 // ---- the clock
 
-struct figures { double median[PROGRAMS], least, most; };
+// What is timed: a round by one program.
+struct job { round *go; int who; };
+
+// The least times of a round of two jobs, and the median and the quartiles of the ratios of two samples side by side.
+struct figures { double least[2], ratio, lower, upper; };
+
+// SHORT and LONG are nanoseconds.
+enum { SAMPLES = 101, FEWER = 31, SHORT = 700000, LONG = 5000000 };
 
 // CLOCK_PROCESS_CPUTIME_ID: the program's own time, so that what else the machine does is left out.
 enum { OWN_TIME = 2 };
@@ -425,53 +467,62 @@ static long time_of(round *go, const struct functions *by, long rounds) {
     return now() - begun;
 }
 
-static double median(double *x) {
-    for (int i = 1; i < SAMPLES; i++) for (int j = i; j && x[j] < x[j - 1]; j--) {
+// The rounds of a sample and the number of samples.
+struct pace { long rounds; int samples; };
+
+// A sample takes about a millisecond or more. Where one round takes long, a disturbance weighs less in a sample,
+// and fewer will do.
+static struct pace pace_of(struct job a, struct job b) {
+    struct pace p = {1, SAMPLES};
+    for (;; p.rounds *= 2) {
+        long first = time_of(a.go, program[a.who], p.rounds), second = time_of(b.go, program[b.who], p.rounds);
+        if (first < SHORT || second < SHORT) continue;
+        if (first > LONG) p.samples = FEWER;
+        return p;
+    }
+}
+
+// The layout in which a job takes least. Each is timed several times in turn, as a single timing may be disturbed.
+static const struct functions *best_layout(struct job j, struct pace p) {
+    long least[LAYOUTS];
+    int best = 0;
+    for (int turn = 0; turn < p.samples / 15; turn++) for (int l = 0; l < LAYOUTS; l++) {
+        long took = time_of(j.go, &program[j.who][l], p.rounds);
+        if (!turn || took < least[l]) least[l] = took;
+    }
+    for (int l = 1; l < LAYOUTS; l++) if (least[l] < least[best]) best = l;
+    return &program[j.who][best];
+}
+
+static void sort(double *x, int count) {
+    for (int i = 1; i < count; i++) for (int j = i; j && x[j] < x[j - 1]; j--) {
         double y = x[j];
         x[j] = x[j - 1];
         x[j - 1] = y;
     }
-    return x[SAMPLES / 2];
 }
 
-// So many rounds that a sample takes some milliseconds by either program.
-static long enough_rounds(round *go) {
-    long rounds = 1;
-    while (time_of(go, program[PROVED], rounds) < LEAST || time_of(go, program[PLAIN_C], rounds) < LEAST) rounds *= 2;
-    return rounds;
-}
-
-// The layout in which a program takes least, each warm when it is timed.
-static const struct functions *best_layout(round *go, const struct functions *layouts, long rounds) {
-    long took[LAYOUTS];
-    int best = 0;
-    for (int l = 0; l < LAYOUTS; l++) {
-        go(&layouts[l]);
-        took[l] = time_of(go, &layouts[l], rounds);
-        if (took[l] < took[best]) best = l;
+// Times two jobs in turn.
+static struct figures in_turn(struct job a, struct job b) {
+    struct pace p = pace_of(a, b);
+    const struct functions *by_a = best_layout(a, p), *by_b = best_layout(b, p);
+    double least[2] = {1e18, 1e18}, ratio[SAMPLES];
+    int n = p.samples;
+    for (int k = 0; k < n; k++) {
+        double first = time_of(a.go, by_a, p.rounds), second = time_of(b.go, by_b, p.rounds);
+        if (first < least[0]) least[0] = first;
+        if (second < least[1]) least[1] = second;
+        ratio[k] = first / second;
     }
-    return &layouts[best];
+    sort(ratio, n);
+    for (int side = 0; side < 2; side++) least[side] /= p.rounds;
+    return (struct figures){{least[0], least[1]}, ratio[n / 2], ratio[n / 4], ratio[n - 1 - n / 4]};
 }
 
-// The median time of a round by each program, and the least and the largest ratio of two samples side by side.
-static struct figures timed(round *go) {
-    long rounds = enough_rounds(go);
-    const struct functions *by[PROGRAMS];
-    double time[PROGRAMS][SAMPLES];
-    struct figures f = {.least = 1e9};
-    for (int who = 0; who < PROGRAMS; who++) by[who] = best_layout(go, program[who], rounds);
-    for (int k = 0; k < SAMPLES; k++) {
-        for (int who = 0; who < PROGRAMS; who++) time[who][k] = (double)time_of(go, by[who], rounds) / rounds;
-        double ratio = time[PROVED][k] / time[PLAIN_C][k];
-        if (ratio < f.least) f.least = ratio;
-        if (ratio > f.most) f.most = ratio;
-    }
-    for (int who = 0; who < PROGRAMS; who++) f.median[who] = median(time[who]);
-    return f;
-}
+static struct figures timed(round *go) { return in_turn((struct job){go, PROVED}, (struct job){go, PLAIN_C}); }
 
 static void print_ratio(struct figures f) {
-    printf("ratio %.2f, spread %.2f to %.2f\n", f.median[PROVED] / f.median[PLAIN_C], f.least, f.most);
+    printf("ratio %.2f, spread %.2f to %.2f\n", f.ratio, f.lower, f.upper);
     fflush(0);
 }
 
@@ -518,68 +569,98 @@ static void measure_composition(void) {
 }
 
 static void measure_quick(int n, int kind) {
-    make_grids(n, n == 8 ? 32 : 8, kinds[kind].saying);
-    for (int k = 0; k < grids.count; k++) same_quick("quick closing", k, grids.cells[k], n * n, n, ENOUGH);
+    make_grids(n, kinds[kind].saying);
+    for (int k = 0; k < grids.count; k++) same_quick("quick closing", k, grid(k), n * n, n, ENOUGH);
     printf("quick closing, n = %d, %s: ", n, kinds[kind].name);
     print_ratio(timed(quick_round));
 }
 
 static void measure_plain(int n, int kind) {
-    make_grids(n, n == 8 ? 32 : 8, kinds[kind].saying);
-    for (int k = 0; k < grids.count; k++) same_plain("plain closing", k, grids.cells[k], n * n, n);
+    make_grids(n, kinds[kind].saying);
+    for (int k = 0; k < grids.count; k++) same_plain("plain closing", k, grid(k), n * n, n);
     printf("plain closing, n = %d, %s: ", n, kinds[kind].name);
     print_ratio(timed(plain_round));
 }
 
-static void measure_search(int n, int count, const char *name, say *saying) {
-    u64 placed = 0, tries = 0;
-    make_grids(n, count, saying);
-    for (int k = 0; k < count; k++) {
-        u64 said = same_search("search", k, grids.cells[k], n * n, n, ALLOWANCE, 2 * n);
-        placed += said >> 32 == 0;
+// The search of the grids that are there.
+static void measure_search(const char *name) {
+    int n = grids.n, ended[ANSWERS] = {0};
+    u64 tries = 0;
+    for (int k = 0; k < grids.count; k++) {
+        u64 said = same_search("search", k, grid(k), n * n, n, ALLOWANCE, 2 * n);
+        ended[said >> 32]++;
         tries += (u32)said;
     }
-    printf("search, n = %d, %s, %lu of %d placed, %lu tries on average: ", n, name, placed, count, tries / count);
+    printf("search, n = %d, %s, %d placed, %d none, %d gave up, %lu tries on average: ", n, name,
+           ended[PLACED], ended[NONE], ended[GAVE_UP], tries / grids.count);
     print_ratio(timed(search_round));
 }
 
-static struct figures measure_reading(u64 size) {
-    seed(13);
-    sheets.count = 1;
-    make_long_sheet(&sheets.sheet[0], MOST, size);
-    same_read("reading a long sheet", 0, &sheets.sheet[0], CELLS);
-    u32 statements = 0;
-    for (int i = 0; i < MOST; i++) statements += body[i].count;
-    struct figures f = timed(read_round);
-    printf("reading a sheet of %lu bytes, %u statements: ", sheets.sheet[0].bytes, statements);
-    print_ratio(f);
-    return f;
+static void measure_searches(void) {
+    for (int n = 8; n <= 32; n += 8) {
+        make_grids(n, planning);
+        measure_search("as in planning");
+    }
+    for (int n = 8; n <= 32; n += 8) {
+        make_grids(n, all_sets);
+        measure_search("all sets");
+    }
+    for (int kind = 0; kind < 3; kind++) {
+        make_grids(MOST, kinds[kind].saying);
+        measure_search(kinds[kind].name);
+    }
 }
 
-static void measure_readings(void) {
-    struct figures whole = measure_reading(SHEET), half = measure_reading(SHEET / 2);
+// A search that goes back much takes four times as many tries as there are pairs, or more. Such a search is long,
+// and one that gives up is longer still, so the grids are few.
+static void measure_going_back(void) {
+    static const struct { int n, count; u64 kind; } cases[5] = {
+        {12, 2, PLACED}, {16, 1, PLACED}, {12, 2, NONE}, {16, 1, NONE}, {16, 1, GAVE_UP},
+    };
+    for (int c = 0; c < 5; c++) {
+        int n = cases[c].n;
+        choose_grids(n, cases[c].count, half_sets, cases[c].kind, 2 * n * (n - 1), ALLOWANCE);
+        measure_search("half sets");
+    }
+}
+
+static double long_over_half(int who) {
+    return in_turn((struct job){read_long_round, who}, (struct job){read_half_round, who}).ratio;
+}
+
+static void measure_reading(void) {
+    for (int k = 0; k < 2 * LONG_SHEETS; k++) {
+        // The same names in a long sheet and one half as long.
+        seed(13 + k % LONG_SHEETS);
+        make_long_sheet(&sheets[k], MOST, k < LONG_SHEETS ? SHEET : SHEET / 2);
+        same_read("reading a long sheet", k, &sheets[k], CELLS);
+    }
+    printf("reading sheets of %d bytes: ", SHEET);
+    print_ratio(timed(read_long_round));
+    printf("reading sheets of %d bytes: ", SHEET / 2);
+    print_ratio(timed(read_half_round));
     printf("reading %d bytes over reading %d: proved %.2f, C %.2f\n", SHEET, SHEET / 2,
-           whole.median[PROVED] / half.median[PROVED], whole.median[PLAIN_C] / half.median[PLAIN_C]);
+           long_over_half(PROVED), long_over_half(PLAIN_C));
 }
 
 static void measure_place(void) {
-    make_placed_grids(MOST, SHEETS, 0);
-    sheets.count = SHEETS;
+    make_placed_grids(MOST, SHEETS);
     for (int k = 0; k < SHEETS; k++) {
-        make_sheet_of(&sheets.sheet[k], grids.cells[k], MOST);
-        same_place("place", k, &sheets.sheet[k]);
+        make_sheet_of(&sheets[k], grid(k), MOST);
+        same_place("place", k, &sheets[k]);
     }
     printf("place whole, sheets of 32 events as in planning: ");
     print_ratio(timed(place_round));
 }
 
+// By the least times: the cases are timed one after the other, and their medians tell how the machine was disturbed.
 static void measure_growth(const char *what, round *go, void (*make)(int n)) {
     double n[7], time[PROGRAMS][7];
     for (int k = 0; k < 7; k++) {
         make(8 + 4 * k);
         struct figures f = timed(go);
         n[k] = 8 + 4 * k;
-        for (int who = 0; who < PROGRAMS; who++) time[who][k] = f.median[who];
+        for (int who = 0; who < PROGRAMS; who++) time[who][k] = f.least[who] / grids.count;
     }
     printf("%s grows with n to the power: proved %.2f, C %.2f\n", what,
            exponent(n, time[PROVED], 7), exponent(n, time[PLAIN_C], 7));
@@ -587,25 +668,29 @@ static void measure_growth(const char *what, round *go, void (*make)(int n)) {
 }
 
 static void make_for_closing(int n) {
-    make_grids(n, 8, middling);
-    for (int k = 0; k < grids.count; k++) same_quick("quick closing as n grows", k, grids.cells[k], n * n, n, ENOUGH);
+    make_grids(n, middling);
+    for (int k = 0; k < grids.count; k++) same_quick("quick closing as n grows", k, grid(k), n * n, n, ENOUGH);
 }
 
 static void make_for_search(int n) {
-    make_placed_grids(n, 8, 0);
-    for (int k = 0; k < grids.count; k++) same_search("search as n grows", k, grids.cells[k], n * n, n, ALLOWANCE, 2 * n);
+    make_placed_grids(n, grids_of(n));
+    for (int k = 0; k < grids.count; k++) same_search("search as n grows", k, grid(k), n * n, n, ALLOWANCE, 2 * n);
+}
+
+// How many times as long one program's search takes as its quick closing.
+static double search_over_closing(int who) {
+    return in_turn((struct job){search_round, who}, (struct job){quick_round, who}).ratio;
 }
 
 // A placing of 32 events needs at least 496 tries, one for each pair.
 static void measure_shortest_search(void) {
-    make_placed_grids(MOST, 8, 496);
+    choose_grids(MOST, 8, planning, PLACED, 496, 496);
     for (int k = 0; k < grids.count; k++)
-        same_search("search in 496 tries", k, grids.cells[k], CELLS, MOST, ALLOWANCE, 2 * MOST);
-    struct figures search = timed(search_round), closing = timed(quick_round);
+        same_search("search in 496 tries", k, grid(k), CELLS, MOST, ALLOWANCE, 2 * MOST);
     printf("a search at n = 32 placed in 496 tries: ");
-    print_ratio(search);
+    print_ratio(timed(search_round));
     printf("that search over one quick closing of its grid: proved %.2f, C %.2f\n",
-           search.median[PROVED] / closing.median[PROVED], search.median[PLAIN_C] / closing.median[PLAIN_C]);
+           search_over_closing(PROVED), search_over_closing(PLAIN_C));
 }
 
 static void load_all(const char *folder) {
@@ -617,19 +702,18 @@ static void load_all(const char *folder) {
 
 // The stack at the start has the number of words of the command line, and then where they are.
 void begin(char **stack) {
-    static const int counts[4] = {32, 16, 8, 8};
     load_all(stack[2]);
     agree_on_grids(5000);
     agree_on_sheets(5000);
-    printf("A ratio is the proved function's time over the C function's, medians of %d samples taken in turn.\n", SAMPLES);
-    printf("The spread is the least and the largest ratio of two samples side by side.\n");
+    printf("A ratio is the proved function's time over the C function's: the median of the ratios of two samples\n");
+    printf("side by side, over %d such pairs, or %d where a sample takes long. The spread is from the lower\n", SAMPLES, FEWER);
+    printf("quartile of these ratios to the upper.\n");
     measure_composition();
     for (int n = 8; n <= 32; n *= 2) for (int kind = 0; kind < 3; kind++) measure_quick(n, kind);
     for (int n = 8; n <= 32; n *= 2) for (int kind = 0; kind < 3; kind++) measure_plain(n, kind);
-    for (int n = 8; n <= 32; n += 8) measure_search(n, counts[n / 8 - 1], "as in planning", planning);
-    for (int n = 8; n <= 32; n += 8) measure_search(n, counts[n / 8 - 1], "all sets", all_sets);
-    for (int kind = 0; kind < 3; kind++) measure_search(32, 8, kinds[kind].name, kinds[kind].saying);
-    measure_readings();
+    measure_searches();
+    measure_going_back();
+    measure_reading();
     measure_place();
     measure_growth("quick closing, middling grids,", quick_round, make_for_closing);
     measure_growth("a search that is placed, as in planning,", search_round, make_for_search);
