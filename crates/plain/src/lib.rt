@@ -1,5 +1,4 @@
 // Plain closing of a grid: sweeps over all routes until one changes nothing.
-ghost use mathlib.Core.Path.{_≡_};
 ghost use Prim.Native.Nat.{_<_};
 ghost use Rattle.relation.specs.HalfRows.{HalfRows};
 ghost use Rattle.grid.specs.Cells.{Held};

@@ -1,20 +1,18 @@
 -- Exchanging the two events: of a relation, and of a set (its converse). Assumes nothing.
 use mathlib.Core.Path.{_≡_, refl, sym, ap, ap₂, _∙_, subst}
 use mathlib.Core.Bool.{Bool, _&&_}
-use Prim.Native.Nat.{ℕ, zero, suc, _+_, _*_, _/_, _%_, _^_, _<_}
+use Prim.Native.Nat.{ℕ, _^_, _<_}
 use native.Mathlib.Omega.{arith}
 use lib.Dec.{T, eqb, ltb, eqb→eq, eqb-refl, ltb→lt}
-use native.Mathlib.Nat.{add-comm, mod-lt}
-use lib.Bits.{bitAnd, bitOr, and-le-l, or-shifted-r}
-use lib.Pow.{pow-pos, mod-pow-add}
+use lib.Bits.{bitAnd, bitOr, and-le-l}
 use Rattle.relation.specs.Comparing.{relOf}
-use Rattle.relation.specs.Meaning.{Event, exchanged, pickℕ}
+use Rattle.relation.specs.Meaning.{Event, exchanged}
 use Rattle.relation.specs.Sets.{member, setBelow, setOf, some, unionOver, Inside}
 use Rattle.relation.specs.Composition.{converse}
 use Rattle.relation.proofs.Tested.{T-of, of-T, and-left, and-right, all, all-at, both-ways}
 use Rattle.relation.proofs.Relations.{relOf-lt, exactly-one, exchanged-holds}
 use Rattle.relation.proofs.SetLaws.{member-and, member-mark, mark-lt, same}
-use Rattle.relation.proofs.UnionLaws.{union-lt, union-from, union-to, union-small, union-none, union-mark, union-or}
+use Rattle.relation.proofs.UnionLaws.{union-lt, union-from, union-to, union-none, union-mark, union-or}
 
 -- ---- of a relation
 
@@ -104,26 +102,6 @@ converse-and a b =
 pub converse-or : (a b : ℕ) → converse (bitOr a b) ≡ bitOr (converse a) (converse b)
 unfolding converse
 converse-or a b = union-or (λ r. 2 ^ exchanged r) a b
-
--- ---- one relation after the other: the converse of the members below r, and then of r too
-
-pub converse-first : (a : ℕ) → 0 ≡ converse (a % 2 ^ 0)
-converse-first a = let e : a % 1 ≡ 0 = omega arith in sym (ap converse e ∙ converse-none)
-
-pub converse-next : (a r : ℕ) → r < 13 → bitOr (converse (a % 2 ^ r)) (pickℕ (member r a) (2 ^ exchanged r) 0) ≡ converse (a % 2 ^ (r + 1))
-unfolding member
-converse-next a r h =
-    ap (bitOr (converse (a % 2 ^ r))) (turned (a / 2 ^ r % 2) (omega arith)) ∙ sym (converse-or (a % 2 ^ r) (a / 2 ^ r % 2 * 2 ^ r))
-    ∙ ap converse (or-shifted-r (a / 2 ^ r % 2) r (a % 2 ^ r) (mod-lt a (pow-pos r)) ∙ sym (mod-pow-add a 1 r) ∙ ap (λ (k : ℕ). a % 2 ^ k) (add-comm 1 r))
-  where
-    turned : (x : ℕ) → x < 2 → pickℕ (eqb x 1) (2 ^ exchanged r) 0 ≡ converse (x * 2 ^ r)
-    turned zero l = let z : 0 * 2 ^ r ≡ 0 = omega arith in sym (ap converse z ∙ converse-none)
-    turned (suc zero) l = let z : 1 * 2 ^ r ≡ 2 ^ r = omega arith in sym (ap converse z ∙ converse-mark r h)
-    turned (suc (suc x)) l = absurd (omega arith)
-
-pub converse-last : (a : ℕ) → converse (a % 2 ^ 13) ≡ converse a
-unfolding converse
-converse-last a = union-small (λ r. 2 ^ exchanged r) a
 
 pub converse-inside : (a b : ℕ) → Inside a b → Inside (converse a) (converse b)
 converse-inside a b i =

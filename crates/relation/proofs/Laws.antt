@@ -13,7 +13,6 @@ use Rattle.relation.specs.Comparing.{relOf}
 use Rattle.relation.specs.Meaning.{Event, holds, exchanged, pickℕ}
 use Rattle.relation.specs.Sets.{member, Inside}
 use Rattle.relation.specs.Composition.{Composed, table, entry, converse, composeRow, compose}
-use Rattle.relation.specs.HalfRows.{byEq}
 use Rattle.relation.proofs.Tested.{T-of, all, all-at}
 use Rattle.relation.proofs.Relations.{relOf-lt, exactly-one, exchanged-holds}
 use Rattle.relation.proofs.TableLaws.{agrees, stands}
@@ -324,6 +323,10 @@ compose-small-right a b =
   where
     all : Inside a a
     all = record { each = λ t h w. w }
+
+-- what a with eq allows, where b has eq: a itself
+abbrev byEq : ℕ → ℕ → ℕ
+byEq a b = pickℕ (member 12 b) (a % 8192) 0
 
 pub byEq-lt : (a b : ℕ) → byEq a b < 8192
 byEq-lt a b = go (member 12 b)

@@ -1,13 +1,14 @@
 -- The union of sets f r over the members r of a set: what its members are, and how a loop over the members gathers it. Assumes nothing.
 use mathlib.Core.Path.{_≡_, refl, sym, ap, ap₂, _∙_, subst}
 use mathlib.Core.Bool.{Bool, true, false, not, _&&_, _||_}
-use Prim.Native.Nat.{ℕ, _-_, _%_, _^_, _<_}
+use Prim.Native.Nat.{ℕ, zero, suc, _+_, _-_, _*_, _/_, _%_, _^_, _<_}
 use native.Mathlib.Omega.{arith}
 use lib.Dec.{T, eqb, eqb→eq, eqb-refl, lit<}
-use native.Mathlib.Nat.{mod-eq-of-lt}
-use lib.Bits.{bitAnd, bitOr, and-comm, and-self, and-mask, or-lt, or-zero-l, or-zero-r}
-use lib.Pow.{pow-pos}
+use native.Mathlib.Nat.{add-comm, mod-lt, mod-eq-of-lt}
+use lib.Bits.{bitAnd, bitOr, and-comm, and-self, and-mask, or-lt, or-zero-l, or-zero-r, or-shifted-r}
+use lib.Pow.{pow-pos, mod-pow-add}
 use lib.Count.{trailingZeros}
+use Rattle.relation.specs.Meaning.{pickℕ}
 use Rattle.relation.specs.Sets.{member, some, unionOver, Inside}
 use Rattle.relation.proofs.Tested.{T-of, of-T, and-left, and-right, and-both, or-cases, or-left, or-right, or-assoc, some-at, some-in, both-ways}
 use Rattle.relation.proofs.SetLaws.{member-or, member-low-marks, member-none, member-mark, same, setOf-lt, member-setOf, same-inside, inside-or-left, inside-or-right, or-inside, and-or}
@@ -103,6 +104,24 @@ module _ (f : ℕ → ℕ) (a b : ℕ) where
           (union-to f a t h (record { by = g .by; by-lt = g .by-lt; by-in = u; gives = g .gives })))
           (λ u. inside-or-right (unionOver f a) (unionOver f b) .each t h
           (union-to f b t h (record { by = g .by; by-lt = g .by-lt; by-in = u; gives = g .gives })))
+
+-- ---- one relation after the other: the union over the members below r, and then over r too
+
+module _ (f : ℕ → ℕ) (a : ℕ) where
+  pub below-first : 0 ≡ unionOver f (a % 2 ^ 0)
+  below-first = let e : a % 1 ≡ 0 = omega arith in sym (ap (unionOver f) e ∙ union-none f)
+
+  pub below-next : (r : ℕ) → r < 13 → f r < 8192
+      → bitOr (unionOver f (a % 2 ^ r)) (pickℕ (member r a) (f r) 0) ≡ unionOver f (a % 2 ^ (r + 1))
+  unfolding member
+  below-next r h l =
+      ap (bitOr (unionOver f (a % 2 ^ r))) (mark-of (a / 2 ^ r % 2) (omega arith)) ∙ sym (union-or f (a % 2 ^ r) (a / 2 ^ r % 2 * 2 ^ r))
+      ∙ ap (unionOver f) (or-shifted-r (a / 2 ^ r % 2) r (a % 2 ^ r) (mod-lt a (pow-pos r)) ∙ sym (mod-pow-add a 1 r) ∙ ap (λ (k : ℕ). a % 2 ^ k) (add-comm 1 r))
+    where
+      mark-of : (x : ℕ) → x < 2 → pickℕ (eqb x 1) (f r) 0 ≡ unionOver f (x * 2 ^ r)
+      mark-of zero k = let z : 0 * 2 ^ r ≡ 0 = omega arith in sym (ap (unionOver f) z ∙ union-none f)
+      mark-of (suc zero) k = let z : 1 * 2 ^ r ≡ 2 ^ r = omega arith in sym (ap (unionOver f) z ∙ union-mark f r h l)
+      mark-of (suc (suc x)) k = absurd (omega arith)
 
 -- ---- one member after the other: what is left, gathered from here, is the whole
 

@@ -1,6 +1,6 @@
 // Sets of the thirteen relations: converse and composition.
 ghost use mathlib.Core.Path.{_≡_};
-ghost use Prim.Native.Nat.{_+_, _-_, _*_, _%_, _^_, _≤_, _<_};
+ghost use Prim.Native.Nat.{_+_, _-_, _*_, _%_, _^_, _<_};
 ghost use lib.Bits.{bitAnd};
 ghost use lib.Count.{trailingZeros};
 ghost use lib.ListN.{length};
@@ -8,7 +8,7 @@ ghost use Rattle.relation.specs.Meaning.{exchanged, pickℕ};
 ghost use Rattle.relation.specs.Sets.{member};
 ghost use Rattle.relation.specs.Typed.{ListsExchanged};
 ghost use Rattle.relation.specs.Composition.{table, entry, converse, composeRow, compose};
-ghost use Rattle.relation.specs.HalfRows.{HalfRows, byEq};
+ghost use Rattle.relation.specs.HalfRows.{HalfRows};
 ghost use Rattle.relation.specs.Filling.{FilledTo, Column, Joins, Adds, Begins, Half};
 ghost use Rattle.relation.specs.Answers.{saidOf, converseSaid, composeSaid};
 
@@ -89,15 +89,16 @@ pub fn without_lowest(a: u16) -> u16
     a & (a - 1)
 }
 
-// The mark of relation s where r is a member of a set, and else nothing. Without a branch: a wrong guess costs more than the rest.
-fn mark_where(a: u16, r: usize, s: usize) -> u16
-    requires { ⌜ (r < 13) × (s < 13) ⌝ }
-    ensures { λ x. ⌜ x ≡ pickℕ (member r a) (2 ^ s) 0 ⌝ }
+// A set x where r is a member of a, and else nothing.
+fn given(a: u16, r: usize, x: u16) -> u16
+    requires { ⌜ r < 13 ⌝ }
+    ensures { λ y. ⌜ y ≡ pickℕ (member r a) x 0 ⌝ }
 {
-    (a >> r) % 2 << s
+    if has(a, r) { x } else { 0 }
 }
 
-// The converse of a set, by the relations one after the other.
+// The converse of a set. All relations come in turn, and not its members: the processor can't foresee where a loop over the
+// members ends, and a wrong guess costs more than the rest.
 pub fn converse_of(a: u16) -> u16
     ensures { λ x. ⌜ x ≡ converse a ⌝ }
 {
@@ -105,23 +106,22 @@ pub fn converse_of(a: u16) -> u16
     let mut out: u16 = 0;
     let mut r = 0;
     while r < 13 {
-        out |= mark_where(a, r, exchanged(&list, r));
+        out |= given(a, r, mark(exchanged(&list, r)));
         r += 1;
     }
     out
 }
 
-// One relation with each member of a set.
+// One relation with each member of a set. As above, all relations come in turn.
 fn compose_row(t: &[[u16; 13]; 13], r: usize, b: u16) -> u16
     requires { ⌜ (r < 13) × (now t ≡ table) ⌝ }
     ensures { λ x. ⌜ x ≡ composeRow r b ⌝ }
 {
     let mut out: u16 = 0;
-    let mut left = b % 8192;
-    while left != 0 {
-        let s = lowest(left);
-        out |= t[r][s];
-        left = without_lowest(left);
+    let mut s = 0;
+    while s < 13 {
+        out |= given(b, s, t[r][s]);
+        s += 1;
     }
     out
 }
@@ -241,13 +241,6 @@ pub fn fill_half_rows(rows: &mut [u16; HALF_ROWS])
     fill_half(&t, rows, 64, 6);
 }
 
-// What a with the eq of b allows, where b has it: all of a.
-fn by_eq(a: u16, b: u16) -> u16
-    ensures { λ x. ⌜ x ≡ byEq a b ⌝ }
-{
-    if has(b, 12) { a % 8192 } else { 0 }
-}
-
 // One relation with a set but for its eq, from two half rows.
 fn row_by_halves(rows: &[u16; HALF_ROWS], r: usize, b: u16) -> u16
     requires { ⌜ HalfRows (now rows) × (r < 13) ⌝ }
@@ -265,7 +258,7 @@ pub fn cut_by(rows: &[u16; HALF_ROWS], set: u16, a: u16, b: u16) -> u16
     requires { ⌜ HalfRows (now rows) ⌝ }
     ensures { λ x. ⌜ x ≡ bitAnd set (compose a b) ⌝ }
 {
-    let mut out = by_eq(a, b);
+    let mut out = given(b, 12, a % 8192);
     let mut left = a % 8192;
     while left != 0 {
         let r = lowest(left);

@@ -6,7 +6,6 @@ use lib.ListN.{length, take, drop, getD, set, length-set}
 use native.Mathlib.Omega.{arith}
 use Rattle.grid.proofs.CellLaws.{front-more}
 use Rattle.measured.proofs.CopyLaws.{front-all}
-use borrow.Author.Needs.{needs}
 use Rattle.measured.proofs.copy.Statement.{statement}
 use Rattle.measured.proofs.copy.Tie as tie
 

@@ -11,7 +11,9 @@ use Rattle.relation.specs.Sets.{member}
 use Rattle.relation.specs.Typed.{ListsExchanged}
 use Rattle.relation.specs.Composition.{converse}
 use Rattle.relation.proofs.Tested.{all-at}
-use Rattle.relation.proofs.ExchangeLaws.{exchanged-lt, converse-first, converse-next, converse-last}
+use Rattle.relation.proofs.SetLaws.{mark-lt}
+use Rattle.relation.proofs.UnionLaws.{union-small, below-first, below-next}
+use Rattle.relation.proofs.ExchangeLaws.{exchanged-lt}
 use borrow.Author.Needs.{needs}
 use Rattle.relation.proofs.converse_of.Statement.{statement}
 use Rattle.relation.proofs.converse_of.Tie as tie
@@ -23,7 +25,8 @@ abbrev μ-loop : tie.MeasureT-loop
 μ-loop a list out₀ r₀ out r = 13 - r
 
 loop-holds : tie.Need-loop-holds Inv-loop μ-loop
-loop-holds c = (omega arith, converse-first (c .args .a))
+unfolding converse
+loop-holds c = (omega arith, below-first (λ r. 2 ^ exchanged r) (c .args .a))
 
 -- one test over the typed list holds each of its numbers to the rule
 typed : List ℕ
@@ -38,11 +41,11 @@ exchanged-requires : tie.Need-exchanged-requires Inv-loop μ-loop
 unfolding typed
 exchanged-requires c κs = (c .before .loop-test .taken, typed-lists)
 
-mark-where-requires : tie.Need-mark-where-requires Inv-loop μ-loop
-mark-where-requires c κs =
-    let r = c .before .before .before .loop .r in
-    let h = c .before .before .loop-test .taken in
-    (h, rw (c .exchanged .ensures) (exchanged-lt r h))
+mark-requires : tie.Need-mark-requires Inv-loop μ-loop
+mark-requires c κs = rw (c .exchanged .ensures) (exchanged-lt (c .before .before .before .loop .r) (c .before .before .loop-test .taken))
+
+given-requires : tie.Need-given-requires Inv-loop μ-loop
+given-requires c κs = c .before .before .before .loop-test .taken
 
 add-r : tie.Need-add-r Inv-loop μ-loop
 add-r c = search needs
@@ -51,23 +54,26 @@ loop-less : tie.Need-loop-less Inv-loop μ-loop
 loop-less c = search needs
 
 loop-again : tie.Need-loop-again Inv-loop μ-loop
+unfolding converse
 loop-again c =
-    let L = c .before .before .before .before .loop in
-    let a = c .before .before .before .before .before .args .a in
-    let h = c .before .before .before .loop-test .taken in (
+    let L = c .before .before .before .before .before .loop in
+    let a = c .before .before .before .before .before .before .args .a in
+    let h = c .before .before .before .before .loop-test .taken in
+    let marked = c .before .mark .ensures ∙ ap (λ (s : ℕ). 2 ^ s) (c .before .before .exchanged .ensures) in (
       omega (arith, h),
-      ap₂ bitOr (L .inv .1) (c .mark-where .ensures ∙ ap (λ (s : ℕ). pickℕ (member (L .r) a) (2 ^ s) 0) (c .before .exchanged .ensures))
-          ∙ converse-next a (L .r) h,
+      ap₂ bitOr (L .inv .1) (c .given .ensures ∙ ap (λ (x : ℕ). pickℕ (member (L .r) a) x 0) marked)
+          ∙ below-next (λ r. 2 ^ exchanged r) a (L .r) h (mark-lt (exchanged (L .r)) (exchanged-lt (L .r) h)),
     )
 
 returns : tie.Need-returns Inv-loop μ-loop
+unfolding converse
 returns c =
     let L = c .before .loop in
     let a = c .before .before .args .a in
     let e : L .r ≡ 13 = omega (arith, L .inv .0, c .loop-test .left) in
-    L .inv .1 ∙ ap (λ (k : ℕ). converse (a % 2 ^ k)) e ∙ converse-last a
+    L .inv .1 ∙ ap (λ (k : ℕ). converse (a % 2 ^ k)) e ∙ union-small (λ r. 2 ^ exchanged r) a
 
 pub converse-of-spec : {M : Type 1} → statement M
 converse-of-spec =
     tie.close
-    (tie.spec Inv-loop μ-loop loop-holds exchanged-requires mark-where-requires add-r loop-less loop-again returns)
+    (tie.spec Inv-loop μ-loop loop-holds exchanged-requires mark-requires given-requires add-r loop-less loop-again returns)

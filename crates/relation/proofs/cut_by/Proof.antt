@@ -6,6 +6,7 @@ use lib.Count.{trailingZeros}
 use Rattle.relation.specs.Composition.{composeRow, compose}
 use Rattle.relation.proofs.UnionLaws.{Gathers, gathers-from, gathers-turn, gathers-end, gathers-holds, next-of}
 use Rattle.relation.proofs.Laws.{row-lt, byEq-lt, compose-apart}
+use native.Mathlib.Omega.{arith}
 use borrow.Author.Needs.{needs}
 use Rattle.relation.proofs.cut_by.Statement.{statement}
 use Rattle.relation.proofs.cut_by.Tie as tie
@@ -16,17 +17,17 @@ Inv-loop rows set a b out₀ left₀ out left = Gathers (λ r. composeRow r (b %
 abbrev μ-loop : tie.MeasureT-loop
 μ-loop rows set a b out₀ left₀ out left = left
 
-by-eq-requires : tie.Need-by-eq-requires Inv-loop μ-loop
-by-eq-requires c κs = search needs
+given-requires : tie.Need-given-requires Inv-loop μ-loop
+given-requires c κs = omega arith
 
 loop-holds : tie.Need-loop-holds Inv-loop μ-loop
 unfolding compose
 loop-holds c =
     let a = c .before .args .a in
     let b = c .before .args .b in
-    subst (λ (w : ℕ). Gathers (λ r. composeRow r (b % 4096)) w (c .by-eq .result) (a % 8192))
-    (ap (λ (x : ℕ). bitOr x (compose a (b % 4096))) (c .by-eq .ensures) ∙ compose-apart a b)
-    (gathers-from (λ r. composeRow r (b % 4096)) a (c .by-eq .result) (rw (c .by-eq .ensures) (byEq-lt a b)))
+    subst (λ (w : ℕ). Gathers (λ r. composeRow r (b % 4096)) w (c .given .result) (a % 8192))
+    (ap (λ (x : ℕ). bitOr x (compose a (b % 4096))) (c .given .ensures) ∙ compose-apart a b)
+    (gathers-from (λ r. composeRow r (b % 4096)) a (c .given .result) (rw (c .given .ensures) (byEq-lt a b)))
 
 lowest-requires : tie.Need-lowest-requires Inv-loop μ-loop
 lowest-requires c κs = search needs
@@ -72,7 +73,7 @@ cut-by-spec =
     (tie.spec
     Inv-loop
     μ-loop
-    by-eq-requires
+    given-requires
     loop-holds
     lowest-requires
     row-by-halves-requires
