@@ -1,9 +1,9 @@
 -- How the parts of a sweep fit together. Assumes nothing.
-use mathlib.Core.Path.{_≡_, ap, sym, _∙_, subst}
+use mathlib.Core.Path.{_≡_, refl, ap, sym, _∙_, subst}
 use mathlib.Core.Logic.{_⊎_, inl, inr}
 use mathlib.Core.List.{List}
 use mathlib.Core.Bool.{Bool, true, false, _||_}
-use Prim.Native.Nat.{ℕ, _+_, _<_}
+use Prim.Native.Nat.{ℕ, _+_, _≤_, _<_}
 use native.Mathlib.Decide.{decLt}
 use native.Mathlib.Omega.{arith}
 use lib.Bits.{bitAnd, and-comm, and-self}
@@ -16,7 +16,7 @@ use Rattle.theory.specs.Sweeps.{Distinct, Progress, DeadEnd, Shrinks, none, val
 use Rattle.theory.proofs.MeetLaws.{and-assoc}
 use Rattle.theory.proofs.AllenLaws.{sized}
 use Rattle.theory.proofs.PlainLaws.{progress-none, progress-one, progress-then}
-use Rattle.plain.specs.Routes.{OneRoute, CellTo, RowTo, AllTo, Pass}
+use Rattle.plain.specs.Routes.{OneRoute, CellTo, RowTo, AllTo, Still, StillUntil, Pass}
 use Rattle.plain.specs.declared.Swept.{Swept}
 use Rattle.plain.specs.declared.Swept.the-variants.{Dead, Moved}
 
@@ -74,6 +74,37 @@ nothing-but n S g G h = progress-none allen inside ones sized n (G .few) S g h
 
 pub one-cut : (n : ℕ) (S : ℕ → ℕ → ℕ → Type 0) (g g' : List ℕ) → Held n g → Shrinks allen n g g' → Progress allen ones n S g g' true
 one-cut n S g g' G s = progress-one allen inside ones sized n (G .few) S g g' (G .fits) s
+
+-- routes that leave the cell as it is, passed over
+module _ (n a b k r : ℕ) (g : List ℕ) where
+  pub still-from : k ≤ n → StillUntil n a b g k k
+  still-from h = record { from = omega arith; within = h; each = λ m l u. absurd (omega arith) }
+
+  pub still-more : r < n → StillUntil n a b g k r → Still n a b g r → StillUntil n a b g k (r + 1)
+  still-more h w s = record { from = omega (arith, w .from); within = omega arith; each = λ m l u. go m l u (decLt m r) }
+    where
+      go : (m : ℕ) → k ≤ m → m < r + 1 → Dec (m < r) → Still n a b g m
+      go m l u (yes v) = w .each m l v
+      go m l u (no v) = let e : m ≡ r = omega arith in subst (Still n a b g) (sym e) s
+
+pub cell-passed : (n a b k r : ℕ) (g g₁ : List ℕ) (c : Bool) → Held n g → Held n g₁ → Progress allen ones n (CellTo n a b k) g g₁ c → StillUntil n a b g₁ k r
+    → Progress allen ones n (CellTo n a b r) g g₁ c
+cell-passed n a b k r g g₁ c G G₁ p w =
+    subst (Progress allen ones n (CellTo n a b r) g g₁) (or-false c)
+    (progress-then allen inside ones sized n (G .few) (CellTo n a b k) Between g g₁ g₁ c false (G .fits) p
+    (nothing-but n Between g₁ G₁ (λ x y z u. rw (u .0, u .3) (w .each y (u .1) (u .2)))) (CellTo n a b r)
+    (λ x y z u. go x y z u (decLt y k)))
+  where
+    Between : ℕ → ℕ → ℕ → Type 0
+    Between x y z = (x ≡ a) × (k ≤ y) × (y < r) × (z ≡ b)
+
+    or-false : (c : Bool) → (c || false) ≡ c
+    or-false true = refl
+    or-false false = refl
+
+    go : (x y z : ℕ) → CellTo n a b r x y z → Dec (y < k) → CellTo n a b k x y z ⊎ Between x y z
+    go x y z u (yes h) = inl (u .0, h, u .2, u .3)
+    go x y z u (no h) = inr (u .0, omega arith, u .1, u .2)
 
 module _ (n a m b : ℕ) (g : List ℕ) (G : Held n g) where
   pub skipped : (m ≡ a) ⊎ (m ≡ b) → Progress allen ones n (OneRoute n a m b) g g false

@@ -3,7 +3,7 @@ use mathlib.Core.Path.{_≡_}
 use mathlib.Core.Logic.{_⊎_}
 use mathlib.Core.Bool.{true, false}
 use mathlib.Core.List.{List}
-use Prim.Native.Nat.{ℕ, _*_, _<_}
+use Prim.Native.Nat.{ℕ, _*_, _≤_, _<_}
 use lib.Count.{ones}
 use lib.ListN.{replicate}
 use Rattle.grid.specs.Cells.{cell, someEmpty}
@@ -29,6 +29,16 @@ RowTo n a j x y z = (x ≡ a) × (x < z) × (z < j) × Distinct n x z y
 -- from events below i to events after them
 abbrev pub AllTo : ℕ → ℕ → ℕ → ℕ → ℕ → Type 0
 AllTo n i x y z = (x < i) × (x < z) × Distinct n x z y
+
+-- the route from a to b over m leaves the cell as it is
+abbrev pub Still : ℕ → ℕ → ℕ → List ℕ → ℕ → Type 0
+Still n a b g m = value allen n g a m b ≡ cell n g a b
+
+-- so does each from k on and below r
+pub record StillUntil (n a b : ℕ) (g : List ℕ) (k r : ℕ) : Type 0 where
+  pub from : k ≤ r
+  pub within : r ≤ n
+  pub each : (m : ℕ) → k ≤ m → m < r → Still n a b g m
 
 -- a part of a sweep over the routes S
 abbrev pub Pass : ℕ → (ℕ → ℕ → ℕ → Type 0) → List ℕ → Swept → List ℕ → Type 0

@@ -1,10 +1,12 @@
 // Plain closing of a grid: sweeps over all routes until one changes nothing.
-ghost use Prim.Native.Nat.{_<_};
+ghost use mathlib.Core.Path.{_≡_};
+ghost use mathlib.Core.Bool.{true};
+ghost use Prim.Native.Nat.{_≤_, _<_};
 ghost use Rattle.relation.specs.HalfRows.{HalfRows};
 ghost use Rattle.grid.specs.Cells.{Held};
 ghost use Rattle.grid.specs.Accepted.{Accepted};
 ghost use Rattle.plain.specs.Answers.{PlainCloses};
-ghost use Rattle.plain.specs.Routes.{OneRoute, CellTo, RowTo, AllTo, Pass, Sweeps};
+ghost use Rattle.plain.specs.Routes.{OneRoute, CellTo, RowTo, AllTo, Still, StillUntil, Pass, Sweeps};
 use grid::Judged;
 use refusal::Refusal;
 use relation::HALF_ROWS;
@@ -100,16 +102,42 @@ fn sweep_cell(rows: &[u16; HALF_ROWS], g: &mut [u16], n: usize, a: usize, b: usi
     ensures { λ r. ⌜ Pass n (CellTo n a b n) (now (g .entry)) r (now (g .exit)) ⌝ }
 {
     let mut changed = false;
-    let mut k = 0;
+    let mut k = still_until(rows, g, n, a, b, 0);
     while k < n {
         let one = cut_by_route(rows, g, n, a, k, b);
         let Swept::Moved(now) = one else {
             return Swept::Dead;
         };
         changed = grid::either(changed, now);
-        k += 1;
+        k = still_until(rows, g, n, a, b, k + 1);
     }
     Swept::Moved(changed)
+}
+
+// Whether the route from a to b over m is seen to leave the cell as it is.
+fn is_still(rows: &[u16; HALF_ROWS], g: &[u16], n: usize, a: usize, b: usize, m: usize) -> bool
+    requires { ⌜ HalfRows (now rows) × (a < n) × (b < n) × (m < n) × Held n (now g) ⌝ }
+    ensures { λ r. ⌜ (r ≡ true → Still n a b (now (g .entry)) m) ⌝ }
+{
+    let set = grid::get(g, n, a, b);
+    let first = grid::get(g, n, a, m);
+    let second = grid::get(g, n, m, b);
+    relation::cut_by(rows, set, first, second) == set
+}
+
+// The first event from k on over which a route may cut cell (a, b), or n. Most routes cut nothing, and this only reads.
+fn still_until(rows: &[u16; HALF_ROWS], g: &[u16], n: usize, a: usize, b: usize, k: usize) -> usize
+    requires { ⌜ HalfRows (now rows) × (a < n) × (b < n) × (k ≤ n) × Held n (now g) ⌝ }
+    ensures { λ r. ⌜ StillUntil n a b (now (g .entry)) k r ⌝ }
+{
+    let mut at = k;
+    while at < n {
+        if !is_still(rows, g, n, a, b, at) {
+            return at;
+        }
+        at += 1;
+    }
+    at
 }
 
 // Cuts (a, b) to what (a, m) with (m, b) allows.
