@@ -94,15 +94,19 @@ static u32 size_refusal(u64 cells, u64 n) {
 
 // With sets and diagonal as they should be, the cells above the diagonal tell whether all are mirrored.
 static u32 cell_refusal(const u16 *g, int n) {
-    for (int p = 0; p < n * n; p++) if (g[p] > ALL) return 3;
+    int large = 0;
+    // The tests over all cells go on to the end, so that eight cells are looked at together.
+    for (int p = 0; p < n * n; p++) large |= g[p] > ALL;
+    if (large) return 3;
     for (int i = 0; i < n; i++) if (g[i * n + i] != EQ) return 4;
     for (int i = 0; i < n; i++) for (int j = i + 1; j < n; j++) if (g[j * n + i] != turned[g[i * n + j]]) return 5;
     return 0;
 }
 
 static int some_empty(const u16 *g, int n) {
-    for (int p = 0; p < n * n; p++) if (!g[p]) return 1;
-    return 0;
+    int empty = 0;
+    for (int p = 0; p < n * n; p++) empty |= !g[p];
+    return empty;
 }
 
 static void clear(u16 *g, int n) {
