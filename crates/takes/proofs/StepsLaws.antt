@@ -1,53 +1,104 @@
 -- From the code's answer to the step that it shows. Assumes nothing.
 use mathlib.Core.Path.{_≡_, refl, _∙_, sym, ap, subst}
-use mathlib.Core.Bool.{true, false}
 use mathlib.Core.List.{List}
-use Prim.Native.Nat.{ℕ, zero, suc, _+_, _≤_, _<_}
+use Prim.Native.Nat.{ℕ, zero, suc, _+_, _*_, _/_, _%_, _≤_, _<_}
 use native.Mathlib.Omega.{arith}
-use lib.Bits.{bitAnd}
-use lib.Dec.{T}
-use Rattle.relation.specs.Composition.{compose}
-use Rattle.grid.specs.Cells.{cell}
+use native.Mathlib.Decide.{ℕ-discrete}
+use borrow.Author.Tests.{eq-eqb, ne-eqb}
+use Rattle.relation.specs.Composition.{converse}
+use Rattle.grid.specs.Cells.{cell, putBoth}
 use Rattle.theory.specs.Allen.{allen}
-use Rattle.theory.specs.Quick.{Out, dead, going, shrunk, cut, paused, closed}
-use Rattle.theory.proofs.StepLaws.{turn-still, left, left-going, rest, rest-paused, rest-closed}
+use Rattle.theory.specs.Line.{joins, pairOf}
+use Rattle.theory.specs.Quick.{Out, dead, going, cutTo, shrunk, cut, paused, closed}
+use Rattle.theory.specs.Cuts.{fromOf, toOf, cutAt}
+use Rattle.theory.proofs.QuickLaws.{shrunk-dead, shrunk-written}
+use Rattle.theory.proofs.StepLaws.{rest, rest-paused, rest-closed}
+use Rattle.theory.proofs.CutsLaws.{first-from, first-via, first-to, second-from, second-via, second-to, cut-made, cut-at-still, cuts-going}
 use Rattle.takes.specs.Waiting.{queueOf}
-use Rattle.takes.specs.Steps.{seen, Sound, Steps, Still, StillUntil, Waits, waitingIn}
+use Rattle.takes.specs.Steps.{seen, Sound, Steps, Stays, Cuts, Passes, Finds, Waits, waitingIn}
 use Rattle.takes.specs.declared.Line.{Line}
 use Rattle.takes.specs.declared.Cut.{Cut}
 use Rattle.takes.specs.declared.Cut.the-variants.{Dead, Going}
 
--- a cut, from the cells read and what is left
-pub cut-is : (n a m b : ℕ) (g q : List ℕ) (old am mb new : ℕ) → old ≡ cell n g a b → am ≡ cell n g a m → mb ≡ cell n g m b → new ≡ bitAnd old (compose am mb)
-    → cut allen n a m b g q ≡ shrunk allen n a b old new g q
-unfolding cut
-cut-is n a m b g q old am mb new e₁ e₂ e₃ e₄ = rw (e₄, e₂, e₃, e₁)
+-- the two cuts at k, from what they leave and the cell read
+module _ (n i j k : ℕ) (g : List ℕ) (x y : ℕ) where
+  module _ (left : x ≡ cutTo allen (cell n g) i j k) (read : y ≡ cell n g i k) where
+    pub first-stays : x ≡ y → Stays n i j g (k * 2)
+    first-stays e = rw (first-from i j k, first-via i j k, first-to i j k) (sym left ∙ e ∙ read)
 
--- a turn, from the cells read and the two tests made
-pub still-is : (n i j k : ℕ) (g : List ℕ) (ij jk ik ki kj : ℕ) → ij ≡ cell n g i j → jk ≡ cell n g j k → ik ≡ cell n g i k → ki ≡ cell n g k i → kj ≡ cell n g k j
-    → bitAnd ik (compose ij jk) ≡ ik → bitAnd kj (compose ki ij) ≡ kj → Still n i j g k
-still-is n i j k g ij jk ik ki kj e₁ e₂ e₃ e₄ e₅ s t q =
-    turn-still allen n i j k g q (rw (← e₁, ← e₂, ← e₃) s) (rw (← e₁, ← e₄, ← e₅) t)
+    pub first-cuts : (x ≡ y → ⊥) → Cuts n i j g (k * 2) x
+    first-cuts ne =
+        record { left = rw (first-from i j k, first-via i j k, first-to i j k) left; less = rw (first-from i j k, first-to i j k) (λ e. ne (e ∙ sym read)) }
 
-pub not-still : {P : Type 0} → false ≡ true → P
-not-still e = absurd (subst T (sym e) tt)
+  module _ (left : x ≡ cutTo allen (cell n g) k i j) (read : y ≡ cell n g k j) where
+    pub second-stays : x ≡ y → Stays n i j g (k * 2 + 1)
+    second-stays e = rw (second-from i j k, second-via i j k, second-to i j k) (sym left ∙ e ∙ read)
 
--- the turns that change nothing, one more and at first none
-pub still-from : (n i j : ℕ) (g : List ℕ) (k : ℕ) → k ≤ n → StillUntil n i j g k k
-still-from n i j g k h = record { from = omega arith; within = h; same = λ q. refl }
+    pub second-cuts : (x ≡ y → ⊥) → Cuts n i j g (k * 2 + 1) x
+    second-cuts ne =
+        record { left = rw (second-from i j k, second-via i j k, second-to i j k) left; less = rw (second-from i j k, second-to i j k) (λ e. ne (e ∙ sym read)) }
 
-pub still-more : (n i j : ℕ) (g : List ℕ) (k r : ℕ) → r < n → StillUntil n i j g k r → Still n i j g r → StillUntil n i j g k (r + 1)
-unfolding left
-still-more n i j g k r h u s =
-    record { from = omega (arith, u .from); within = omega arith; same = λ q. u .same q ∙ left-going allen n i j r g q g q h (s q) }
+-- the cuts that change nothing, at first none and then one more
+module _ (n i j : ℕ) (g : List ℕ) (c : ℕ) where
+  pub passes-none : c ≤ n * 2 → Passes n i j g c c
+  passes-none h = record { from = omega arith; within = h; same = λ q. refl }
 
-pub still-left : (n i j : ℕ) (g : List ℕ) (k r : ℕ) (q : List ℕ) → StillUntil n i j g k r → left allen n i j k g q ≡ left allen n i j r g q
-unfolding left
-still-left n i j g k r q u = u .same q
+  pub passes-more : (r : ℕ) → r < n * 2 → Passes n i j g c r → Stays n i j g r → Passes n i j g c (r + 1)
+  passes-more r h p s =
+      record { from = omega (arith, p .from); within = omega arith; same = λ q. p .same q ∙ cuts-going allen n i j r g q h g q (cut-at-still allen n i j r g q s) }
+
+  pub finds-end : (r : ℕ) → n * 2 ≤ r → Passes n i j g c r → Finds n i j g c (n * 2) 0
+  finds-end r h p =
+      let e : r ≡ n * 2 = omega (arith, p .within) in
+      record { passes = subst (Passes n i j g c) e p; cuts = λ l. absurd (omega arith) }
+
+-- from c on, which is the second cut at c / 2 where c is odd
+module _ (n i j : ℕ) (g : List ℕ) (c r set : ℕ) (f : Finds n i j g ((c / 2 + c % 2) * 2) r set) where
+  pub even-finds : (c % 2 ≡ 1 → ⊥) → Finds n i j g c r set
+  even-finds h = let e : (c / 2 + c % 2) * 2 ≡ c = omega (arith, h) in subst (λ (d : ℕ). Finds n i j g d r set) e f
+
+  pub odd-finds : c % 2 ≡ 1 → c < n * 2 → Stays n i j g (c / 2 * 2 + 1) → Finds n i j g c r set
+  odd-finds h l s =
+      let e : (c / 2 + c % 2) * 2 ≡ c + 1 = omega arith in
+      let b : c / 2 * 2 + 1 ≡ c = omega arith in
+      let p : Passes n i j g (c + 1) r = subst (λ (d : ℕ). Passes n i j g d r) e (f .passes) in
+      let one : Passes n i j g c (c + 1) = passes-more n i j g c c l (passes-none n i j g c (omega arith)) (subst (Stays n i j g) b s) in
+      record { passes = record { from = omega (arith, p .from); within = p .within; same = λ q. one .same q ∙ p .same q }; cuts = f .cuts }
+
+pub odd-found : (n i j : ℕ) (g : List ℕ) (c set : ℕ) → c % 2 ≡ 1 → c ≤ n * 2 → Cuts n i j g (c / 2 * 2 + 1) set → Finds n i j g c c set
+odd-found n i j g c set h l k =
+    let b : c / 2 * 2 + 1 ≡ c = omega arith in
+    record { passes = passes-none n i j g c l; cuts = λ _. subst (λ (d : ℕ). Cuts n i j g d set) b k }
+
+pub found-below : (n i j : ℕ) (g : List ℕ) (c r set : ℕ) → Finds n i j g c r set → (r ≡ n * 2 → ⊥) → r < n * 2
+found-below n i j g c r set f ne = omega (arith, f .passes .within, ne)
+
+-- cut c, made: its two events, and what it comes to
+module _ (n i j c : ℕ) (ni : c / 2 ≡ i → ⊥) (nj : c / 2 ≡ j → ⊥) where
+  pub cut-events : i < n → j < n → c < n * 2 → (fromOf i c < n) × (toOf j c < n) × (fromOf i c ≡ toOf j c → ⊥)
+  cut-events hi hj hc = go (ℕ-discrete (c % 2) 0)
+    where
+      go : Dec (c % 2 ≡ 0) → (fromOf i c < n) × (toOf j c < n) × (fromOf i c ≡ toOf j c → ⊥)
+      go (yes e) = rw (eq-eqb (c % 2) 0 e) (hi, omega arith, λ x. ni (sym x))
+      go (no e) = rw (ne-eqb (c % 2) 0 e) (omega arith, hj, nj)
+
+  module _ (g q : List ℕ) (set : ℕ) (k : Cuts n i j g c set) where
+    cut-to-set : cutAt allen n i j c g q ≡ shrunk allen n (fromOf i c) (toOf j c) (cell n g (fromOf i c) (toOf j c)) set g q
+    unfolding cut
+    cut-to-set = cut-made allen n i j c g q ni nj ∙ ap (λ (v : ℕ). shrunk allen n (fromOf i c) (toOf j c) (cell n g (fromOf i c) (toOf j c)) v g q) (sym (k .left))
+
+    pub made-dead : set ≡ 0 → cutAt allen n i j c g q ≡ dead
+    made-dead z = cut-to-set ∙ shrunk-dead allen n (fromOf i c) (toOf j c) _ set g q (k .less) z
+
+    pub made-written : (set ≡ 0 → ⊥) → cutAt allen n i j c g q ≡ going (putBoth converse n g (fromOf i c) (toOf j c) set) (joins (pairOf (fromOf i c) (toOf j c)) q)
+    made-written nz = cut-to-set ∙ shrunk-written allen n (fromOf i c) (toOf j c) _ set g q (k .less) nz
 
 module _ (n : ℕ) (o : Out) (r : Cut) (g ring flag : List ℕ) (s : Steps n o r g ring flag) where
   pub is-dead : r ≡ Dead → o ≡ dead
   is-dead e = sym (s .same) ∙ ap (λ (x : Cut). seen x g ring) e
+
+  pub has-room : r ≡ Dead → Sound n Dead ring flag
+  has-room e = subst (λ (x : Cut). Sound n x ring flag) e (s .sound)
 
   module _ (l : Line) (e : r ≡ Going l) where
     pub is-going : o ≡ going g (waitingIn ring l)

@@ -11,7 +11,7 @@ use lib.Seq.{getD-set-same, getD-set-other}
 use Rattle.grid.proofs.CellLaws.{zeros}
 use Rattle.theory.specs.Line.{occurs, joins}
 use Rattle.theory.proofs.LineLaws.{occurs-append, occurs-cons-same, occurs-cons-other, occurs-nil}
-use Rattle.takes.specs.Waiting.{queueOf, total, IsPair, Waiting, Left}
+use Rattle.takes.specs.Waiting.{queueOf, total, IsPair, Waiting, Left, Idle}
 
 pub total-set : (l : List ℕ) (i v : ℕ) → i < length l → total (set l i v) + getD l i 0 ≡ total l + v
 unfolding total
@@ -189,19 +189,40 @@ unfolding total
 total-zeros zero = refl
 total-zeros (suc k) = omega (arith, total-zeros k)
 
-pub empty-line : (n : ℕ) → Waiting n (replicate 1024 0) (replicate 1024 0) 0 0
+pub cleared : (n : ℕ) (ring flag : List ℕ) → length ring ≡ 1024 → flag ≡ replicate 1024 0 → Idle n ring flag
 unfolding queueOf
-empty-line n =
+cleared n ring flag r f =
+    rw f (
     record {
       head-small = omega arith;
       len-small = omega arith;
-      ring-len = length-replicate {A = ℕ} 1024 0;
+      ring-len = r;
       flag-len = length-replicate {A = ℕ} 1024 0;
       flags = λ p h. zeros 1024 p ∙ sym (occurs-nil p);
       once = λ p. omega (arith, zeros 1024 p);
       counted = total-zeros 1024;
       pairs = λ p h. absurd (omega (arith, h, occurs-nil p));
     }
+    )
+
+pub empty-line : (n : ℕ) → Idle n (replicate 1024 0) (replicate 1024 0)
+empty-line n = cleared n (replicate 1024 0) (replicate 1024 0) (length-replicate {A = ℕ} 1024 0) refl
+
+-- a list of which all have left
+pub all-left : (n : ℕ) (ring flag : List ℕ) (h l : ℕ) → l ≤ 0 → Waiting n ring flag h l → Idle n ring flag
+unfolding queueOf
+all-left n ring flag h zero e w =
+    record {
+      head-small = omega arith;
+      len-small = w .len-small;
+      ring-len = w .ring-len;
+      flag-len = w .flag-len;
+      flags = w .flags;
+      once = w .once;
+      counted = w .counted;
+      pairs = w .pairs;
+    }
+all-left n ring flag h (suc l) e w = absurd (omega arith)
 
 pub empty-queue : (ring : List ℕ) (h : ℕ) → queueOf ring h 0 ≡ []
 unfolding queueOf

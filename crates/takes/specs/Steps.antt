@@ -1,9 +1,12 @@
 -- How the code's answer, grid and waiting list show a step of quick closing. Inner functions cite this; the public statements do not. Assumes nothing.
 use mathlib.Core.Path.{_≡_}
 use mathlib.Core.List.{List}
-use Prim.Native.Nat.{ℕ, _-_, _≤_}
+use Prim.Native.Nat.{ℕ, _*_, _≤_, _<_}
+use lib.ListN.{length}
+use Rattle.grid.specs.Cells.{cell}
 use Rattle.theory.specs.Allen.{allen}
-use Rattle.theory.specs.Quick.{Out, dead, going, turn, turns, Ended, contradiction, closed, paused}
+use Rattle.theory.specs.Quick.{Out, dead, going, cutTo, Ended, contradiction, closed, paused}
+use Rattle.theory.specs.Cuts.{fromOf, viaOf, toOf, cutsFrom}
 use Rattle.takes.specs.Waiting.{queueOf, Waiting}
 use Rattle.takes.specs.declared.Line.{Line}
 use Rattle.takes.specs.declared.Cut.{Cut}
@@ -22,9 +25,9 @@ abbrev pub seen : Cut → List ℕ → List ℕ → Out
 seen Dead g ring = dead
 seen (Going l) g ring = going g (waitingIn ring l)
 
--- while it goes on, the waiting list is sound
+-- while it goes on, the waiting list is sound; afterwards it still has its room
 abbrev pub Sound : ℕ → Cut → List ℕ → List ℕ → Type 0
-Sound n Dead ring flag = Unit {0}
+Sound n Dead ring flag = (length ring ≡ 1024) × (length flag ≡ 1024)
 Sound n (Going l) ring flag = Waits n ring flag l
 
 -- what a step comes to is o
@@ -32,15 +35,25 @@ pub record Steps (n : ℕ) (o : Out) (r : Cut) (g ring flag : List ℕ) : Type 0
   pub same : seen r g ring ≡ o
   pub sound : Sound n r ring flag
 
--- the turn of k in the take of (i, j) changes nothing, whatever waits
-abbrev pub Still : ℕ → ℕ → ℕ → List ℕ → ℕ → Type 0
-Still n i j g k = (q : List ℕ) → turn allen n i j k g q ≡ going g q
+-- cut c in the take of (i, j) leaves its cell as it is
+abbrev pub Stays : ℕ → ℕ → ℕ → List ℕ → ℕ → Type 0
+Stays n i j g c = cutTo allen (cell n g) (fromOf i c) (viaOf i j c) (toOf j c) ≡ cell n g (fromOf i c) (toOf j c)
 
--- the turns from k on come to those from r on
-pub record StillUntil (n i j : ℕ) (g : List ℕ) (k r : ℕ) : Type 0 where
-  pub from : k ≤ r
-  pub within : r ≤ n
-  pub same : (q : List ℕ) → turns allen n i j (n - k) k g q ≡ turns allen n i j (n - r) r g q
+-- cut c changes its cell: it leaves this set
+pub record Cuts (n i j : ℕ) (g : List ℕ) (c set : ℕ) : Type 0 where
+  pub left : set ≡ cutTo allen (cell n g) (fromOf i c) (viaOf i j c) (toOf j c)
+  pub less : set ≡ cell n g (fromOf i c) (toOf j c) → ⊥
+
+-- the cuts from c on come to those from r on, whatever waits
+pub record Passes (n i j : ℕ) (g : List ℕ) (c r : ℕ) : Type 0 where
+  pub from : c ≤ r
+  pub within : r ≤ n * 2
+  pub same : (q : List ℕ) → cutsFrom allen n i j c g q ≡ cutsFrom allen n i j r g q
+
+-- cut r is the first from c on that changes something, or r is n * 2
+pub record Finds (n i j : ℕ) (g : List ℕ) (c r set : ℕ) : Type 0 where
+  pub passes : Passes n i j g c r
+  pub cuts : r < n * 2 → Cuts n i j g r set
 
 -- how a run ended, with its grid
 abbrev pub ended : End → List ℕ → Ended

@@ -29,6 +29,10 @@ pub record Waiting (n : ℕ) (ring flag : List ℕ) (h l : ℕ) : Type 0 where
   pub counted : total flag ≡ l
   pub pairs : (p : ℕ) → 0 < occurs p (queueOf ring h l) → IsPair n p
 
+-- nothing waits
+abbrev pub Idle : ℕ → List ℕ → List ℕ → Type 0
+Idle n ring flag = Waiting n ring flag 0 0
+
 -- the pair p has left the list, which now starts at h' and is l' long
 pub record Left (n : ℕ) (ring flag : List ℕ) (h l p h' l' : ℕ) : Type 0 where
   pub pair : IsPair n p

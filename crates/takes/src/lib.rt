@@ -1,15 +1,16 @@
 // The takes of quick closing, from any waiting list: the core of both closing a given grid and a try of the search.
 ghost use mathlib.Core.Path.{_≡_};
-ghost use mathlib.Core.Bool.{true};
-ghost use Prim.Native.Nat.{_≤_, _<_};
+ghost use Prim.Native.Nat.{_*_, _≤_, _<_};
+ghost use lib.ListN.{length, replicate};
 ghost use Rattle.relation.specs.HalfRows.{HalfRows};
 ghost use Rattle.relation.specs.Composition.{converse};
-ghost use Rattle.grid.specs.Cells.{putBoth, Held};
+ghost use Rattle.grid.specs.Cells.{cell, putBoth, Held};
 ghost use Rattle.theory.specs.Allen.{allen};
 ghost use Rattle.theory.specs.Line.{pairOf, joins};
-ghost use Rattle.theory.specs.Quick.{going, cut, turn, turns, run};
-ghost use Rattle.takes.specs.Waiting.{IsPair, Left};
-ghost use Rattle.takes.specs.Steps.{Waits, waitingIn, Steps, Still, StillUntil, ended};
+ghost use Rattle.theory.specs.Quick.{going, cutTo, turns, run};
+ghost use Rattle.theory.specs.Cuts.{fromOf, toOf, cutAt};
+ghost use Rattle.takes.specs.Waiting.{IsPair, Left, Idle};
+ghost use Rattle.takes.specs.Steps.{Waits, waitingIn, Steps, Cuts, Finds, ended};
 use relation::HALF_ROWS;
 
 // The waiting list: it starts at head in the ring and is len pairs long.
@@ -57,7 +58,7 @@ pub fn pair_of(a: usize, b: usize) -> usize
 }
 
 // Cell (a, b) and its mirror become v, and the pair joins.
-fn write_cut(
+pub fn write_cut(
     g: &mut [u16],
     ring: &mut [u16; 1024],
     flag: &mut [u8; 1024],
@@ -76,37 +77,80 @@ fn write_cut(
     join(ring, flag, n, l, p)
 }
 
-// Cuts (a, b) to what (a, m) with (m, b) allows.
-fn cut_cell(
-    rows: &[u16; HALF_ROWS],
-    g: &mut [u16],
-    ring: &mut [u16; 1024],
-    flag: &mut [u8; 1024],
-    n: usize,
-    l: Line,
-    a: usize,
-    m: usize,
-    b: usize,
-) -> Cut
-    requires { ⌜ HalfRows (now rows) × (a < n) × (m < n) × (b < n) × (a ≡ b → ⊥) × Held n (now g) × Waits n (now ring) (now flag) l ⌝ }
-    ensures { λ r. ⌜ Steps n (cut allen n a m b (now (g .entry)) (waitingIn (now (ring .entry)) l)) r (now (g .exit)) (now (ring .exit)) (now (flag .exit)) ⌝ }
-{
-    let old = grid::get(g, n, a, b);
-    let am = grid::get(g, n, a, m);
-    let mb = grid::get(g, n, m, b);
-    let new = relation::cut_by(rows, old, am, mb);
-    if new == old {
-        return Cut::Going(l);
-    }
-    if new == 0 {
-        return Cut::Dead;
-    }
-    Cut::Going(write_cut(g, ring, flag, n, l, a, b, new))
+// A cut that changes its cell, by its number in the take, and what it leaves. Cut 2 * k is the first at k, 2 * k + 1 the second.
+pub struct Found {
+    pub at: usize,
+    pub set: u16,
 }
 
-// Both cuts at k, in the take of (i, j).
-fn turn_at(
-    rows: &[u16; HALF_ROWS],
+// What (a, m) with (m, b) leaves of (a, b).
+fn left_by(rows: &[u16; HALF_ROWS], g: &[u16], n: usize, a: usize, m: usize, b: usize) -> u16
+    requires { ⌜ HalfRows (now rows) × (a < n) × (m < n) × (b < n) × Held n (now g) ⌝ }
+    ensures { λ x. ⌜ x ≡ cutTo allen (cell n (now (g .entry))) a m b ⌝ }
+{
+    let ab = grid::get(g, n, a, b);
+    let am = grid::get(g, n, a, m);
+    let mb = grid::get(g, n, m, b);
+    relation::cut_by(rows, ab, am, mb)
+}
+
+// The first cut from event k on that changes something in the take of (i, j), or cut 2 * n. Most cuts change nothing, and this only
+// reads. At i and j nothing is seen to change, and to pass them over would cost more.
+fn cut_from(rows: &[u16; HALF_ROWS], g: &[u16], n: usize, i: usize, j: usize, from: usize) -> Found
+    requires { ⌜ HalfRows (now rows) × (i < n) × (j < n) × (from ≤ n) × Held n (now g) ⌝ }
+    ensures { λ r. ⌜ Finds n i j (now (g .entry)) (from * 2) (r .at) (r .set) ⌝ }
+{
+    let mut k = from;
+    while k < n {
+        let first = left_by(rows, g, n, i, j, k);
+        if first != grid::get(g, n, i, k) {
+            return Found {
+                at: k * 2,
+                set: first,
+            };
+        }
+        let second = left_by(rows, g, n, k, i, j);
+        if second != grid::get(g, n, k, j) {
+            return Found {
+                at: k * 2 + 1,
+                set: second,
+            };
+        }
+        k += 1;
+    }
+    Found { at: n * 2, set: 0 }
+}
+
+// The first cut from c on that changes something in the take of (i, j), or cut 2 * n.
+fn next_cut(rows: &[u16; HALF_ROWS], g: &[u16], n: usize, i: usize, j: usize, c: usize) -> Found
+    requires { ⌜ HalfRows (now rows) × (i < n) × (j < n) × (c ≤ n * 2) × Held n (now g) ⌝ }
+    ensures { λ r. ⌜ Finds n i j (now (g .entry)) c (r .at) (r .set) ⌝ }
+{
+    let k = c / 2;
+    if c % 2 == 1 {
+        let set = left_by(rows, g, n, k, i, j);
+        if set != grid::get(g, n, k, j) {
+            return Found { at: c, set };
+        }
+    }
+    cut_from(rows, g, n, i, j, k + c % 2)
+}
+
+// The two events of the cell that cut c in the take of (i, j) cuts.
+fn from_of(i: usize, c: usize) -> usize
+    ensures { λ r. ⌜ r ≡ fromOf i c ⌝ }
+{
+    if c % 2 == 0 { i } else { c / 2 }
+}
+
+fn to_of(j: usize, c: usize) -> usize
+    ensures { λ r. ⌜ r ≡ toOf j c ⌝ }
+{
+    if c % 2 == 0 { c / 2 } else { j }
+}
+
+// Makes cut c in the take of (i, j), which leaves this set.
+fn make_cut(
     g: &mut [u16],
     ring: &mut [u16; 1024],
     flag: &mut [u8; 1024],
@@ -114,53 +158,23 @@ fn turn_at(
     l: Line,
     i: usize,
     j: usize,
-    k: usize,
+    c: usize,
+    set: u16,
 ) -> Cut
-    requires { ⌜ HalfRows (now rows) × (i < n) × (j < n) × (k < n) × (i ≡ j → ⊥) × Held n (now g) × Waits n (now ring) (now flag) l ⌝ }
-    ensures { λ r. ⌜ Steps n (turn allen n i j k (now (g .entry)) (waitingIn (now (ring .entry)) l)) r (now (g .exit)) (now (ring .exit)) (now (flag .exit)) ⌝ }
+    requires { ⌜ (i < n) × (j < n) × (i ≡ j → ⊥) × (c < n * 2) × Held n (now g) × Waits n (now ring) (now flag) l × Cuts n i j (now g) c set ⌝ }
+    ensures { λ r. ⌜ Steps n (cutAt allen n i j c (now (g .entry)) (waitingIn (now (ring .entry)) l)) r (now (g .exit)) (now (ring .exit)) (now (flag .exit)) ⌝ }
 {
+    let k = c / 2;
     if k == i {
         return Cut::Going(l);
     }
     if k == j {
         return Cut::Going(l);
     }
-    let first = cut_cell(rows, g, ring, flag, n, l, i, j, k);
-    let Cut::Going(m) = first else {
+    if set == 0 {
         return Cut::Dead;
-    };
-    cut_cell(rows, g, ring, flag, n, m, k, i, j)
-}
-
-// Whether the turn of k in the take of (i, j) is seen to cut nothing.
-fn is_still(rows: &[u16; HALF_ROWS], g: &[u16], n: usize, i: usize, j: usize, k: usize) -> bool
-    requires { ⌜ HalfRows (now rows) × (i < n) × (j < n) × (k < n) × Held n (now g) ⌝ }
-    ensures { λ r. ⌜ (r ≡ true → Still n i j (now (g .entry)) k) ⌝ }
-{
-    let ij = grid::get(g, n, i, j);
-    let jk = grid::get(g, n, j, k);
-    let ik = grid::get(g, n, i, k);
-    if relation::cut_by(rows, ik, ij, jk) != ik {
-        return false;
     }
-    let ki = grid::get(g, n, k, i);
-    let kj = grid::get(g, n, k, j);
-    relation::cut_by(rows, kj, ki, ij) == kj
-}
-
-// The first event from k on whose turn may cut something, or n. Most turns cut nothing, and this only reads.
-fn still_until(rows: &[u16; HALF_ROWS], g: &[u16], n: usize, i: usize, j: usize, k: usize) -> usize
-    requires { ⌜ HalfRows (now rows) × (i < n) × (j < n) × (k ≤ n) × Held n (now g) ⌝ }
-    ensures { λ r. ⌜ StillUntil n i j (now (g .entry)) k r ⌝ }
-{
-    let mut at = k;
-    while at < n {
-        if !is_still(rows, g, n, i, j, at) {
-            return at;
-        }
-        at += 1;
-    }
-    at
+    Cut::Going(write_cut(g, ring, flag, n, l, from_of(i, c), to_of(j, c), set))
 }
 
 // One take of (i, j).
@@ -178,16 +192,20 @@ fn take_pair(
     ensures { λ r. ⌜ Steps n (turns allen n i j n 0 (now (g .entry)) (waitingIn (now (ring .entry)) l)) r (now (g .exit)) (now (ring .exit)) (now (flag .exit)) ⌝ }
 {
     let mut at = l;
-    let mut k = still_until(rows, g, n, i, j, 0);
-    while k < n {
-        let one = turn_at(rows, g, ring, flag, n, at, i, j, k);
+    let mut c = 0;
+    loop {
+        let found = next_cut(rows, g, n, i, j, c);
+        let next = found.at;
+        if next == n * 2 {
+            return Cut::Going(at);
+        }
+        let one = make_cut(g, ring, flag, n, at, i, j, next, found.set);
         let Cut::Going(m) = one else {
             return Cut::Dead;
         };
         at = m;
-        k = still_until(rows, g, n, i, j, k + 1);
+        c = next + 1;
     }
-    Cut::Going(at)
 }
 
 // The first pair, and the waiting list without it.
@@ -213,7 +231,15 @@ fn leave(ring: &[u16; 1024], flag: &mut [u8; 1024], n: usize, l: Line) -> First
     }
 }
 
-// At most limit takes.
+// Nothing waits any more.
+fn clear_flags(flag: &mut [u8; 1024])
+    requires { ⌜ length (now flag) ≡ 1024 ⌝ }
+    ensures { λ _. ⌜ now (flag .exit) ≡ replicate 1024 0 ⌝ }
+{
+    *flag = [0u8; 1024];
+}
+
+// At most limit takes, after which the waiting list is empty.
 pub fn takes(
     rows: &[u16; HALF_ROWS],
     g: &mut [u16],
@@ -224,12 +250,14 @@ pub fn takes(
     limit: usize,
 ) -> End
     requires { ⌜ HalfRows (now rows) × Held n (now g) × Waits n (now ring) (now flag) l ⌝ }
-    ensures { λ r. ⌜ ended r (now (g .exit)) ≡ run allen n limit 0 (now (g .entry)) (waitingIn (now (ring .entry)) l) ⌝ }
+    ensures end { λ r. ⌜ ended r (now (g .exit)) ≡ run allen n limit 0 (now (g .entry)) (waitingIn (now (ring .entry)) l) ⌝ }
+    ensures idle { λ r. ⌜ Idle n (now (ring .exit)) (now (flag .exit)) ⌝ }
 {
     let mut at = l;
     let mut t = 0;
     while 0 < at.len {
         if t == limit {
+            clear_flags(flag);
             return End::Paused(t);
         }
         let first = leave(ring, flag, n, at);
@@ -238,6 +266,7 @@ pub fn takes(
         t += 1;
         let one = take_pair(rows, g, ring, flag, n, rest, p / 32, p % 32);
         let Cut::Going(m) = one else {
+            clear_flags(flag);
             return End::Contradiction(t);
         };
         at = m;

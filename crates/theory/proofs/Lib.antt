@@ -9,6 +9,7 @@ pub mod TakeLaws
 pub mod QuickRight
 pub mod PlainLaws
 pub mod StepLaws
+pub mod CutsLaws
 pub mod MeetLaws
 pub mod AllenLaws
 pub mod GivenLaws

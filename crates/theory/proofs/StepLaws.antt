@@ -10,10 +10,7 @@ use Rattle.theory.specs.Quick.{cutTo, Out, dead, going, andThen, cut, cu
 use Rattle.theory.proofs.QuickLaws.{cut-still, turn-is, turn-skip-i, turn-skip-j}
 
 module _ (A : Calculus) (n i j k : ℕ) (g q : List ℕ) where
-  pub turn-dead : (k ≡ i → ⊥) → (k ≡ j → ⊥) → cut A n i j k g q ≡ dead → turn A n i j k g q ≡ dead
-  turn-dead ni nj e = turn-is A n i j k g q ni nj ∙ ap (λ (o : Out). andThen o (cutBack A n i j k)) e
-
-  pub turn-going : (k ≡ i → ⊥) → (k ≡ j → ⊥) → (g' q' : List ℕ) → cut A n i j k g q ≡ going g' q' → turn A n i j k g q ≡ cutBack A n i j k g' q'
+  turn-going : (k ≡ i → ⊥) → (k ≡ j → ⊥) → (g' q' : List ℕ) → cut A n i j k g q ≡ going g' q' → turn A n i j k g q ≡ cutBack A n i j k g' q'
   turn-going ni nj g' q' e = turn-is A n i j k g q ni nj ∙ ap (λ (o : Out). andThen o (cutBack A n i j k)) e
 
   -- where both cuts leave their cells as they are, the turn changes nothing
@@ -33,7 +30,7 @@ pub left-all : (A : Calculus) (n i j : ℕ) (g q : List ℕ) → left A n i j 0 
 unfolding left
 left-all A n i j g q = ap (λ (f : ℕ). turns A n i j f 0 g q) (omega arith)
 
-pub left-none : (A : Calculus) (n i j k : ℕ) (g q : List ℕ) → n ≤ k → left A n i j k g q ≡ going g q
+left-none : (A : Calculus) (n i j k : ℕ) (g q : List ℕ) → n ≤ k → left A n i j k g q ≡ going g q
 unfolding left turns
 left-none A n i j k g q h = let e : n - k ≡ 0 = omega arith in rw e
 
@@ -44,10 +41,7 @@ left-step A n i j k g q h =
     let s : k + 1 ≡ suc k = omega arith in
     rw (e, s)
 
-pub left-dead : (A : Calculus) (n i j k : ℕ) (g q : List ℕ) → k < n → turn A n i j k g q ≡ dead → left A n i j k g q ≡ dead
-left-dead A n i j k g q h e = left-step A n i j k g q h ∙ ap (λ (o : Out). andThen o (left A n i j (k + 1))) e
-
-pub left-going : (A : Calculus) (n i j k : ℕ) (g q g' q' : List ℕ) → k < n → turn A n i j k g q ≡ going g' q' → left A n i j k g q ≡ left A n i j (k + 1) g' q'
+left-going : (A : Calculus) (n i j k : ℕ) (g q g' q' : List ℕ) → k < n → turn A n i j k g q ≡ going g' q' → left A n i j k g q ≡ left A n i j (k + 1) g' q'
 left-going A n i j k g q g' q' h e = left-step A n i j k g q h ∙ ap (λ (o : Out). andThen o (left A n i j (k + 1))) e
 
 -- where no turn changes anything, the take changes nothing

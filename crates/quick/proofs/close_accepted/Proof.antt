@@ -53,7 +53,7 @@ returns-2 c =
     let takes = c .before .before .before .before .before .before .before .before .before .takes in
     let end = c .before .before .before .before .before .end in
     let clear2 = c .before .before .clear2 in
-    shows-contradiction _ _ _ _ (rule-ran _ _ _ _ (some-empty .ensures) (if1 .left) _ (all-waiting .ensures .1) _ _ _ (takes .ensures) (end .given .1))
+    shows-contradiction _ _ _ _ (rule-ran _ _ _ _ (some-empty .ensures) (if1 .left) _ (all-waiting .ensures .1) _ _ _ (takes .ensures .0) (end .given .1))
     (clear2 .ensures ∙ ap (λ (k : ℕ). replicate k 0) (takes .kept .1 .0 ∙ s .pre .1 .long))
 
 same-length-3 : tie.Need-same-length-3
@@ -65,7 +65,7 @@ returns-3 c =
     let if1 = c .before .before .before .before .before .before .before .before .before .before .before .before .if1 in
     let all-waiting = c .before .before .before .before .before .before .before .before .before .all-waiting in
     let takes = c .before .before .before .before .before .takes in
-    shows-closed _ _ _ _ (rule-ran _ _ _ _ (some-empty .ensures) (if1 .left) _ (all-waiting .ensures .1) _ _ _ (takes .ensures) (c .before .end2 .given .1))
+    shows-closed _ _ _ _ (rule-ran _ _ _ _ (some-empty .ensures) (if1 .left) _ (all-waiting .ensures .1) _ _ _ (takes .ensures .0) (c .before .end2 .given .1))
 
 same-length-4 : tie.Need-same-length-4
 same-length-4 c = search needs
@@ -76,7 +76,7 @@ returns-4 c =
     let if1 = c .before .before .before .before .before .before .before .before .before .before .before .before .if1 in
     let all-waiting = c .before .before .before .before .before .before .before .before .before .all-waiting in
     let takes = c .before .before .before .before .before .takes in
-    shows-paused _ _ _ _ (rule-ran _ _ _ _ (some-empty .ensures) (if1 .left) _ (all-waiting .ensures .1) _ _ _ (takes .ensures) (c .before .end3 .given .1))
+    shows-paused _ _ _ _ (rule-ran _ _ _ _ (some-empty .ensures) (if1 .left) _ (all-waiting .ensures .1) _ _ _ (takes .ensures .0) (c .before .end3 .given .1))
 
 pub close-accepted-spec : {M : Type 1} → statement M
 close-accepted-spec =

@@ -31,7 +31,7 @@ same-length c = search needs
 returns : tie.Need-returns
 returns c =
     try-is _ _ _ _ _ _ _ _ _ _ (c .before .before .before .before .before .before .before .before .before .before .before .before .put-both .ensures) (c .before .before .before .before .before .before .before .before .before .before .before .before .before .mark .ensures)
-    (c .before .before .before .before .before .before .join .ensures .1 ∙ ap (joins _) (empty-queue _ _)) (c .before .before .before .before .before .before .before .before .before .pair-of .ensures) (c .before .before .takes .ensures)
+    (c .before .before .before .before .before .before .join .ensures .1 ∙ ap (joins _) (empty-queue _ _)) (c .before .before .before .before .before .before .before .before .before .pair-of .ensures) (c .before .before .takes .ensures .0)
 
 pub attempt-spec : {M : Type 1} → statement M
 attempt-spec =

@@ -16,7 +16,7 @@ same-length : tie.Need-same-length
 same-length c = search needs
 
 returns : tie.Need-returns
-returns c = c .before .before .takes .ensures ∙ ap (run _ _ _ _ _) (c .before .before .before .before .before .before .all-waiting .ensures .1)
+returns c = c .before .before .takes .ensures .0 ∙ ap (run _ _ _ _ _) (c .before .before .before .before .before .before .all-waiting .ensures .1)
 
 pub close-all-spec : {M : Type 1} → statement M
 close-all-spec = tie.close (tie.spec all-waiting-requires takes-requires same-length returns)

@@ -6,7 +6,8 @@ use Rattle.theory.specs.Allen.{allen}
 use Rattle.theory.specs.Quick.{run}
 use Rattle.theory.proofs.StepLaws.{rest, rest-all, rest-dead, rest-going}
 use Rattle.takes.specs.Steps.{Waits, waitingIn}
-use Rattle.takes.proofs.StepsLaws.{is-dead, is-going, is-sound, stopped, finished}
+use Rattle.takes.proofs.StepsLaws.{is-dead, has-room, is-going, is-sound, stopped, finished}
+use Rattle.takes.proofs.WaitingLaws.{cleared, all-left}
 use borrow.Author.Needs.{needs}
 use native.Mathlib.Omega.{arith}
 use Rattle.takes.proofs.takes.Statement.{statement}
@@ -23,11 +24,17 @@ abbrev μ-loop : tie.MeasureT-loop
 loop-holds : tie.Need-loop-holds Inv-loop μ-loop
 loop-holds c = (search needs, search needs, c .before .pre .2, rest-all _ _ _ _ _)
 
+clear-flags-requires : tie.Need-clear-flags-requires Inv-loop μ-loop
+clear-flags-requires c κs = c .before .before .before .before .loop .inv .2 .flag-len
+
 same-length : tie.Need-same-length Inv-loop μ-loop
 same-length c = search needs
 
 returns : tie.Need-returns Inv-loop μ-loop
-returns c = sym (stopped _ _ _ _ _ _ _ (c .before .if1 .taken) (c .if2 .taken)) ∙ c .before .before .before .loop .inv .3
+returns c =
+    let I = c .before .before in
+    let v = I .before .before .before .loop .inv in
+    (sym (stopped _ _ _ _ _ _ _ (I .before .if1 .taken) (I .if2 .taken)) ∙ v .3, cleared _ _ _ (v .2 .ring-len) (c .clear-flags .ensures))
 
 leave-requires : tie.Need-leave-requires Inv-loop μ-loop
 leave-requires c κs = (c .before .before .before .before .before .before .before .pre .1 .few, c .before .before .before .if1 .taken, c .before .before .before .before .before .loop .inv .2)
@@ -48,40 +55,48 @@ enum-known-one c = search needs
 enum-told : tie.Need-enum-told Inv-loop μ-loop
 enum-told c = search needs
 
+clear-flags-requires-2 : tie.Need-clear-flags-requires-2 Inv-loop μ-loop
+clear-flags-requires-2 c κs = has-room _ _ _ _ _ _ (c .before .before .before .before .before .take-pair .ensures) (c .before .enum-told .given .1) .1
+
 same-length-2 : tie.Need-same-length-2 Inv-loop μ-loop
 same-length-2 c = search needs
 
 returns-2 : tie.Need-returns-2 Inv-loop μ-loop
 returns-2 c =
-    let L = c .before .before .before .before .before .before .before .before .before .before .before .before .before .before .before .loop in
-    let if2 = c .before .before .before .before .before .before .before .before .before .before .before .before .if2 in
-    let leave = c .before .before .before .before .before .before .before .before .before .leave in
-    let take-pair = c .before .before .before .before .take-pair in
-    sym (rest-dead _ _ _ _ _ _ _ (omega (arith, L .inv .0, if2 .left)) (is-dead _ _ _ _ _ _ (take-pair .ensures) (c .enum-told .given .1)))
-    ∙ sym (ap (rest _ _ _ _ _) (leave .ensures .was)) ∙ L .inv .3
+    let T = c .before .before .before .before .before .before in
+    let E = T .before .before .before .before .before in
+    let I = E .before .before .before in
+    let L = I .before .before .before .loop in
+    let told = c .before .before .enum-told .given .1 in (
+      sym (rest-dead _ _ _ _ _ _ _ (omega (arith, L .inv .0, I .if2 .left)) (is-dead _ _ _ _ _ _ (T .take-pair .ensures) told))
+          ∙ sym (ap (rest _ _ _ _ _) (E .leave .ensures .was)) ∙ L .inv .3,
+      cleared _ _ _ (has-room _ _ _ _ _ _ (T .take-pair .ensures) told .0) (c .clear-flags2 .ensures),
+    )
 
 loop-less : tie.Need-loop-less Inv-loop μ-loop
 loop-less c = search needs
 
 loop-again : tie.Need-loop-again Inv-loop μ-loop
 loop-again c =
-    let L = c .before .before .before .before .before .before .before .before .before .before .before .before .before .before .before .before .loop in
-    let if2 = c .before .before .before .before .before .before .before .before .before .before .before .before .before .if2 in
-    let leave = c .before .before .before .before .before .before .before .before .before .before .leave in
-    let take-pair = c .before .before .before .before .before .take-pair in
-    let one = c .before .one in (
-      omega (arith, L .inv .0, if2 .left),
+    let T = c .before .before .before .before .before in
+    let E = T .before .before .before .before .before in
+    let I = E .before .before .before in
+    let L = I .before .before .before .loop in
+    let one = c .before .one .given .1 in (
+      omega (arith, L .inv .0, I .if2 .left),
       search needs,
-      is-sound _ _ _ _ _ _ (take-pair .ensures) _ (one .given .1),
-      sym (rest-going _ _ _ _ _ _ _ (omega (arith, L .inv .0, if2 .left)) _ _ (is-going _ _ _ _ _ _ (take-pair .ensures) _ (one .given .1)))
-          ∙ sym (ap (rest _ _ _ _ _) (leave .ensures .was)) ∙ L .inv .3,
+      is-sound _ _ _ _ _ _ (T .take-pair .ensures) _ one,
+      sym (rest-going _ _ _ _ _ _ _ (omega (arith, L .inv .0, I .if2 .left)) _ _ (is-going _ _ _ _ _ _ (T .take-pair .ensures) _ one))
+          ∙ sym (ap (rest _ _ _ _ _) (E .leave .ensures .was)) ∙ L .inv .3,
     )
 
 same-length-3 : tie.Need-same-length-3 Inv-loop μ-loop
 same-length-3 c = search needs
 
 returns-3 : tie.Need-returns-3 Inv-loop μ-loop
-returns-3 c = sym (finished _ _ _ _ _ _ _ (c .if1 .left)) ∙ c .before .before .loop .inv .3
+returns-3 c =
+    let v = c .before .before .loop .inv in
+    (sym (finished _ _ _ _ _ _ _ (c .if1 .left)) ∙ v .3, all-left _ _ _ _ _ (c .if1 .left) (v .2))
 
 pub takes-spec : {M : Type 1} → statement M
 takes-spec =
@@ -90,6 +105,7 @@ takes-spec =
     Inv-loop
     μ-loop
     loop-holds
+    clear-flags-requires
     same-length
     returns
     leave-requires
@@ -97,6 +113,7 @@ takes-spec =
     take-pair-requires
     enum-known-one
     enum-told
+    clear-flags-requires-2
     same-length-2
     returns-2
     loop-less
