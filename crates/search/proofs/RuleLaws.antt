@@ -16,7 +16,7 @@ use Rattle.relation.proofs.Tested.{all, all-at}
 use Rattle.grid.specs.Cells.{putBoth}
 use Rattle.theory.specs.Allen.{allen}
 use Rattle.theory.specs.Line.{pairOf, joins, occurs}
-use Rattle.theory.specs.Quick.{Ended, run}
+use Rattle.theory.specs.Quick.{Out, going, Ended, contradiction, goOn, run}
 use Rattle.theory.specs.Search.{Pair, Tried, emptied, closed, Found, placed, none, gaveUp, orNext, turnOf, relationsFrom, row, rows, pairsFrom}
 use Rattle.placing.specs.Settling.{settles, Settled}
 use Rattle.search.specs.Rule.{enough, triedBy, tryAt}
@@ -116,13 +116,13 @@ joins-alone : (p : ℕ) → joins p [] ≡ p ∷ []
 unfolding joins occurs
 joins-alone p = refl
 
-pub try-is : (n i j r v p : ℕ) (g h q : List ℕ) (e : Ended) → h ≡ putBoth converse n g i j v → v ≡ 2 ^ r → q ≡ joins p [] → p ≡ pairOf i j
+pub try-is : (n i j r v : ℕ) (g h q w : List ℕ) (e : Ended) → going h q ≡ going (putBoth converse n g i j v) (joins (pairOf i j) w) → v ≡ 2 ^ r → w ≡ []
     → e ≡ run allen n enough 0 h q → triedBy e ≡ tryAt n (i, j) r g
 unfolding tryAt
-try-is n i j r v p g h q e a b c d f =
+try-is n i j r v g h q w e a b z f =
     ap triedBy
-    (f ∙ ap (λ (x : List ℕ). run allen n enough 0 x q) (a ∙ ap (putBoth converse n g i j) b)
-    ∙ ap (run allen n enough 0 (putBoth converse n g i j (2 ^ r))) (c ∙ joins-alone p ∙ ap (λ (x : ℕ). x ∷ []) d))
+    (f ∙ ap (λ (o : Out). goOn o (contradiction 0) (run allen n enough 0)) a ∙ ap (λ (x : ℕ). run allen n enough 0 (putBoth converse n g i j x) (joins (pairOf i j) w)) b
+    ∙ ap (run allen n enough 0 (putBoth converse n g i j (2 ^ r))) (ap (joins (pairOf i j)) z ∙ joins-alone (pairOf i j)))
 
 -- ---- past the last cell
 

@@ -8,6 +8,7 @@ ghost use Rattle.grid.specs.Accepted.{Accepted, judgedNumber};
 ghost use Rattle.theory.specs.Allen.{allen};
 ghost use Rattle.theory.specs.Line.{allPairs};
 ghost use Rattle.theory.specs.Quick.{run};
+ghost use Rattle.takes.specs.Waiting.{Idle};
 ghost use Rattle.takes.specs.Steps.{ended};
 ghost use Rattle.search.specs.Rule.{enough, triedBy, tryAt, searchOf};
 ghost use Rattle.search.specs.Answers.{saidOf, searchRefusal, Looks};
@@ -108,22 +109,31 @@ fn pass_decided(g: &[u16], n: usize, from: Stand, allowance: u32) -> Stand
     at
 }
 
-// One try: cuts cell (i, j) and its mirror to relation r, and closes from that pair.
-fn attempt(rows: &[u16; HALF_ROWS], g: &mut [u16], n: usize, i: usize, j: usize, r: usize) -> End
-    requires { ⌜ HalfRows (now rows) × Held n (now g) × (i < n) × (j < n) × (i ≡ j → ⊥) × (r < 13) ⌝ }
-    ensures { λ e. ⌜ triedBy (ended e (now (g .exit))) ≡ tryAt n (i, j) r (now (g .entry)) ⌝ }
+// One try: cuts cell (i, j) and its mirror to relation r, and closes from that pair. Nothing waits before or afterwards.
+fn attempt(
+    rows: &[u16; HALF_ROWS],
+    ring: &mut [u16; 1024],
+    flag: &mut [u8; 1024],
+    g: &mut [u16],
+    n: usize,
+    i: usize,
+    j: usize,
+    r: usize,
+) -> End
+    requires { ⌜ HalfRows (now rows) × Idle n (now ring) (now flag) × Held n (now g) × (i < n) × (j < n) × (i ≡ j → ⊥) × (r < 13) ⌝ }
+    ensures tried { λ e. ⌜ triedBy (ended e (now (g .exit))) ≡ tryAt n (i, j) r (now (g .entry)) ⌝ }
+    ensures idle { λ e. ⌜ Idle n (now (ring .exit)) (now (flag .exit)) ⌝ }
 {
-    grid::put_both(g, n, i, j, relation::mark(r));
-    let mut ring = [0u16; 1024];
-    let mut flag = [0u8; 1024];
-    let p = takes::pair_of(i, j);
-    let one = takes::join(&mut ring, &mut flag, n, Line { head: 0, len: 0 }, p);
-    takes::takes(rows, g, &mut ring, &mut flag, n, one, ENOUGH)
+    let none = Line { head: 0, len: 0 };
+    let one = takes::write_cut(g, ring, flag, n, none, i, j, relation::mark(r));
+    takes::takes(rows, g, ring, flag, n, one, ENOUGH)
 }
 
 // One try on a copy of the grid, at the front of a room for a grid.
 fn attempt_in(
     rows: &[u16; HALF_ROWS],
+    ring: &mut [u16; 1024],
+    flag: &mut [u8; 1024],
     g: &[u16],
     cut: &mut [u16],
     n: usize,
@@ -131,31 +141,36 @@ fn attempt_in(
     j: usize,
     r: usize,
 ) -> End
-    requires { ⌜ HalfRows (now rows) × (length (now g) ≡ n * n) × Held n (now cut) × (i < n) × (j < n) × (i ≡ j → ⊥) × (r < 13) ⌝ }
-    ensures { λ e. ⌜ triedBy (ended e (take (n * n) (now (cut .exit)))) ≡ tryAt n (i, j) r (now (g .entry)) ⌝ }
+    requires { ⌜ HalfRows (now rows) × Idle n (now ring) (now flag) × (length (now g) ≡ n * n) × Held n (now cut) × (i < n) × (j < n) × (i ≡ j → ⊥) × (r < 13) ⌝ }
+    ensures tried { λ e. ⌜ triedBy (ended e (take (n * n) (now (cut .exit)))) ≡ tryAt n (i, j) r (now (g .entry)) ⌝ }
+    ensures idle { λ e. ⌜ Idle n (now (ring .exit)) (now (flag .exit)) ⌝ }
 {
     let cells = n * n;
     grid::copy(cut, g, cells);
-    attempt(rows, &mut cut[..cells], n, i, j, r)
+    attempt(rows, ring, flag, &mut cut[..cells], n, i, j, r)
 }
 
 // Decides the cells of a closed grid from a stand on. Past the last, the placing is written to the room.
 pub fn look(
     rows: &[u16; HALF_ROWS],
+    ring: &mut [u16; 1024],
+    flag: &mut [u8; 1024],
     n: usize,
     from: Stand,
     g: &[u16],
     allowance: u32,
     room: &mut [i32],
 ) -> Looked
-    requires { ⌜ HalfRows (now rows) × Stands n allowance from × Searched n (now g) × (length (now room) ≡ 2 * n) ⌝ }
-    ensures { λ l. ⌜ Shows n allowance (goesOn n allowance (now (g .entry)) from) (now (room .entry)) l (now (room .exit)) ⌝ }
+    requires { ⌜ HalfRows (now rows) × Idle n (now ring) (now flag) × Stands n allowance from × Searched n (now g) × (length (now room) ≡ 2 * n) ⌝ }
+    ensures shows { λ l. ⌜ Shows n allowance (goesOn n allowance (now (g .entry)) from) (now (room .entry)) l (now (room .exit)) ⌝ }
+    ensures idle { λ l. ⌜ Idle n (now (ring .exit)) (now (flag .exit)) ⌝ }
 {
     let at = pass_decided(g, n, from, allowance);
     if at.left == 0 {
         return settled(g, n, at.tries, room);
     }
     let cells = n * n;
+    let mut work = [0u16; 1024];
     let mut used = at.tries;
     let mut r = 0;
     while r < 13 {
@@ -164,14 +179,13 @@ pub fn look(
                 return came_to(Outcome::GaveUp, used);
             }
             used += 1;
-            let mut work = [0u16; 1024];
-            let answer = attempt_in(rows, g, &mut work, n, at.i, at.j, r);
+            let answer = attempt_in(rows, ring, flag, g, &mut work, n, at.i, at.j, r);
             let End::Closed(_takes) = answer else {
                 r += 1;
                 continue;
             };
             let stand = step(n, at, used);
-            let below = look(rows, n, stand, &work[..cells], allowance, room);
+            let below = look(rows, ring, flag, n, stand, &work[..cells], allowance, room);
             let said = below.outcome;
             let Outcome::None = said else {
                 return below;
@@ -196,24 +210,37 @@ fn settled(g: &[u16], n: usize, tries: u32, room: &mut [i32]) -> Looked
 }
 
 // Closes a grid from the list of all pairs.
-fn close_all(rows: &[u16; HALF_ROWS], g: &mut [u16], n: usize) -> End
-    requires { ⌜ HalfRows (now rows) × Held n (now g) ⌝ }
-    ensures { λ e. ⌜ ended e (now (g .exit)) ≡ run allen n enough 0 (now (g .entry)) (allPairs n) ⌝ }
+fn close_all(
+    rows: &[u16; HALF_ROWS],
+    ring: &mut [u16; 1024],
+    flag: &mut [u8; 1024],
+    g: &mut [u16],
+    n: usize,
+) -> End
+    requires { ⌜ HalfRows (now rows) × Idle n (now ring) (now flag) × Held n (now g) ⌝ }
+    ensures closed { λ e. ⌜ ended e (now (g .exit)) ≡ run allen n enough 0 (now (g .entry)) (allPairs n) ⌝ }
+    ensures idle { λ e. ⌜ Idle n (now (ring .exit)) (now (flag .exit)) ⌝ }
 {
-    let mut ring = [0u16; 1024];
-    let mut flag = [0u8; 1024];
-    let all = quick::all_waiting(&mut ring, &mut flag, n);
-    takes::takes(rows, g, &mut ring, &mut flag, n, all, ENOUGH)
+    let all = quick::all_waiting(ring, flag, n);
+    takes::takes(rows, g, ring, flag, n, all, ENOUGH)
 }
 
 // Copies an accepted grid to the front of a working grid, and closes it there.
-fn close_copy(rows: &[u16; HALF_ROWS], g: &[u16], work: &mut [u16], n: usize) -> End
-    requires { ⌜ HalfRows (now rows) × Accepted n (now g) × Held n (now work) ⌝ }
-    ensures { λ e. ⌜ triedBy (ended e (take (n * n) (now (work .exit)))) ≡ triedBy (run allen n enough 0 (now (g .entry)) (allPairs n)) ⌝ }
+fn close_copy(
+    rows: &[u16; HALF_ROWS],
+    ring: &mut [u16; 1024],
+    flag: &mut [u8; 1024],
+    g: &[u16],
+    work: &mut [u16],
+    n: usize,
+) -> End
+    requires { ⌜ HalfRows (now rows) × Idle n (now ring) (now flag) × Accepted n (now g) × Held n (now work) ⌝ }
+    ensures closed { λ e. ⌜ triedBy (ended e (take (n * n) (now (work .exit)))) ≡ triedBy (run allen n enough 0 (now (g .entry)) (allPairs n)) ⌝ }
+    ensures idle { λ e. ⌜ Idle n (now (ring .exit)) (now (flag .exit)) ⌝ }
 {
     let cells = n * n;
     grid::copy(work, g, cells);
-    close_all(rows, &mut work[..cells], n)
+    close_all(rows, ring, flag, &mut work[..cells], n)
 }
 
 // The search's end as an answer.
@@ -239,8 +266,10 @@ fn search_accepted(g: &[u16], n: usize, allowance: u32, room: &mut [i32]) -> Pla
     }
     let mut rows = [UNFILLED; HALF_ROWS];
     relation::fill_half_rows(&mut rows);
+    let mut ring = [0u16; 1024];
+    let mut flag = [0u8; 1024];
     let mut work = [0u16; 1024];
-    let first = close_copy(&rows, g, &mut work, n);
+    let first = close_copy(&rows, &mut ring, &mut flag, g, &mut work, n);
     let End::Closed(_takes) = first else {
         return PlaceAnswer::None(0);
     };
@@ -251,7 +280,16 @@ fn search_accepted(g: &[u16], n: usize, allowance: u32, room: &mut [i32]) -> Pla
         left: (cells - n) / 2,
         tries: 0,
     };
-    let found = look(&rows, n, stand, &work[..cells], allowance, room);
+    let found = look(
+        &rows,
+        &mut ring,
+        &mut flag,
+        n,
+        stand,
+        &work[..cells],
+        allowance,
+        room,
+    );
     answer_of(found)
 }
 

@@ -1,8 +1,5 @@
 -- The cell is cut, and the pair alone waits.
-use Rattle.theory.proofs.LineLaws.{pair-ok}
-use Rattle.takes.proofs.WaitingLaws.{empty-line, empty-queue}
-use Rattle.theory.specs.Line.{joins}
-use mathlib.Core.Path.{ap, _∙_}
+use Rattle.takes.proofs.WaitingLaws.{empty-queue}
 use Rattle.search.proofs.RuleLaws.{try-is}
 use borrow.Author.Needs.{needs}
 use Rattle.search.proofs.attempt.Statement.{statement}
@@ -11,16 +8,8 @@ use Rattle.search.proofs.attempt.Tie as tie
 mark-requires : tie.Need-mark-requires
 mark-requires c κs = search needs
 
-put-both-requires : tie.Need-put-both-requires
-put-both-requires c κs = search needs
-
-pair-of-requires : tie.Need-pair-of-requires
-pair-of-requires c κs = search needs
-
-join-requires : tie.Need-join-requires
-join-requires c κs =
-    let s = c .before .before .before .before .before .before .before .before .before in
-    (s .pre .1 .few, rw (c .before .before .pair-of .ensures) (pair-ok _ _ _ (s .pre .1 .few) (s .pre .2) (s .pre .3) (s .pre .4)), empty-line _)
+write-cut-requires : tie.Need-write-cut-requires
+write-cut-requires c κs = search needs
 
 takes-requires : tie.Need-takes-requires
 takes-requires c κs = search needs
@@ -30,17 +19,10 @@ same-length c = search needs
 
 returns : tie.Need-returns
 returns c =
-    try-is _ _ _ _ _ _ _ _ _ _ (c .before .before .before .before .before .before .before .before .before .before .before .before .put-both .ensures) (c .before .before .before .before .before .before .before .before .before .before .before .before .before .mark .ensures)
-    (c .before .before .before .before .before .before .join .ensures .1 ∙ ap (joins _) (empty-queue _ _)) (c .before .before .before .before .before .before .before .before .before .pair-of .ensures) (c .before .before .takes .ensures .0)
+    let T = c .before .before in
+    let W = T .before .before .before .before .before .before in
+    (try-is _ _ _ _ _ _ _ _ _ _ (W .write-cut .ensures .0) (W .before .mark .ensures) (empty-queue _ _) (T .takes .ensures .0), T .takes .ensures .1)
 
 pub attempt-spec : {M : Type 1} → statement M
 attempt-spec =
-    tie.close
-    (tie.spec
-    mark-requires
-    put-both-requires
-    pair-of-requires
-    join-requires
-    takes-requires
-    same-length
-    returns)
+    tie.close (tie.spec mark-requires write-cut-requires takes-requires same-length returns)

@@ -1,13 +1,12 @@
 -- The run starts from the list of all pairs.
 use mathlib.Core.Path.{ap, _∙_}
 use Rattle.theory.specs.Quick.{run}
-use Rattle.takes.proofs.WaitingLaws.{empty-line}
 use borrow.Author.Needs.{needs}
 use Rattle.search.proofs.close_all.Statement.{statement}
 use Rattle.search.proofs.close_all.Tie as tie
 
 all-waiting-requires : tie.Need-all-waiting-requires
-all-waiting-requires c κs = (c .before .before .before .pre .1 .few, empty-line _)
+all-waiting-requires c κs = search needs
 
 takes-requires : tie.Need-takes-requires
 takes-requires c κs = search needs
@@ -16,7 +15,9 @@ same-length : tie.Need-same-length
 same-length c = search needs
 
 returns : tie.Need-returns
-returns c = c .before .before .takes .ensures .0 ∙ ap (run _ _ _ _ _) (c .before .before .before .before .before .before .all-waiting .ensures .1)
+returns c =
+    let T = c .before .before in
+    (T .takes .ensures .0 ∙ ap (run _ _ _ _ _) (T .before .before .before .before .all-waiting .ensures .1), T .takes .ensures .1)
 
 pub close-all-spec : {M : Type 1} → statement M
 close-all-spec = tie.close (tie.spec all-waiting-requires takes-requires same-length returns)
