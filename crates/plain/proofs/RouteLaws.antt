@@ -8,7 +8,7 @@ use native.Mathlib.Decide.{decLt}
 use native.Mathlib.Omega.{arith}
 use lib.Bits.{bitAnd, and-comm, and-self}
 use lib.Count.{ones}
-use Rattle.relation.specs.Composition.{converse, compose}
+use Rattle.relation.specs.Composition.{converse}
 use Rattle.grid.specs.Cells.{cell, putBoth, Held}
 use Rattle.theory.specs.Calculus.{Sub}
 use Rattle.theory.specs.Allen.{allen}
@@ -16,7 +16,7 @@ use Rattle.theory.specs.Sweeps.{Distinct, Progress, DeadEnd, Shrinks, none, val
 use Rattle.theory.proofs.MeetLaws.{and-assoc}
 use Rattle.theory.proofs.AllenLaws.{sized}
 use Rattle.theory.proofs.PlainLaws.{progress-none, progress-one, progress-then}
-use Rattle.plain.specs.Routes.{OneRoute, CellTo, RowTo, AllTo, Still, StillUntil, Pass}
+use Rattle.plain.specs.Routes.{OneRoute, CellTo, RowTo, AllTo, Still, StillUntil, Changes, Finds, Pass}
 use Rattle.plain.specs.declared.Swept.{Swept}
 use Rattle.plain.specs.declared.Swept.the-variants.{Dead, Moved}
 
@@ -87,6 +87,12 @@ module _ (n a b k r : ℕ) (g : List ℕ) where
       go m l u (yes v) = w .each m l v
       go m l u (no v) = let e : m ≡ r = omega arith in subst (Still n a b g) (sym e) s
 
+  pub finds-end : n ≤ r → StillUntil n a b g k r → Finds n a b g k n 0
+  finds-end h w = let e : r ≡ n = omega (arith, w .within) in record { passed = subst (StillUntil n a b g k) e w; changes = λ l. absurd (omega arith) }
+
+pub found-below : (n a b : ℕ) (g : List ℕ) (k r set : ℕ) → Finds n a b g k r set → (r ≡ n → ⊥) → r < n
+found-below n a b g k r set f ne = omega (arith, f .passed .within, ne)
+
 pub cell-passed : (n a b k r : ℕ) (g g₁ : List ℕ) (c : Bool) → Held n g → Held n g₁ → Progress allen ones n (CellTo n a b k) g g₁ c → StillUntil n a b g₁ k r
     → Progress allen ones n (CellTo n a b r) g g₁ c
 cell-passed n a b k r g g₁ c G G₁ p w =
@@ -114,34 +120,26 @@ module _ (n a m b : ℕ) (g : List ℕ) (G : Held n g) where
       go (inl e) x y z u = u .3 .ac (u .0 ∙ sym e ∙ sym (u .1))
       go (inr e) x y z u = u .3 .bc (u .2 ∙ sym e ∙ sym (u .1))
 
-  module _ (old am mb new : ℕ) (e₁ : old ≡ cell n g a b) (e₂ : am ≡ cell n g a m) (e₃ : mb ≡ cell n g m b) (e₄ : new ≡ bitAnd old (compose am mb)) where
-    pub value-is : new ≡ value allen n g a m b
-    value-is = rw (e₄, e₂, e₃, e₁)
+  module _ (set : ℕ) (k : Changes n a b g m set) (lo : a < b) (hb : b < n) (hm : m < n) (ma : m ≡ a → ⊥) (nb : m ≡ b → ⊥) where
+    route : Distinct n a b m
+    route = record { ha = omega arith; hb = hb; hc = hm; ab = λ e. omega arith; bc = λ e. nb (sym e); ac = λ e. ma (sym e) }
 
-    pub unchanged : new ≡ old → Progress allen ones n (OneRoute n a m b) g g false
-    unchanged e = nothing-but n (OneRoute n a m b) g G (λ x y z u. rw (u .0, u .1, u .2) (sym value-is ∙ e ∙ e₁))
+    pub dead-end : set ≡ 0 → DeadEnd allen n g
+    dead-end z = record { at = g; cuts = none; a = a; m = m; b = b; route = route; empty = sym (k .left) ∙ z }
 
-    module _ (lo : a < b) (hb : b < n) (hm : m < n) (ma : m ≡ a → ⊥) (nb : m ≡ b → ⊥) where
-      route : Distinct n a b m
-      route = record { ha = omega arith; hb = hb; hc = hm; ab = λ e. omega arith; bc = λ e. nb (sym e); ac = λ e. ma (sym e) }
-
-      pub dead-end : new ≡ 0 → DeadEnd allen n g
-      dead-end z = record { at = g; cuts = none; a = a; m = m; b = b; route = route; empty = sym value-is ∙ z }
-
-      pub shrinks : (new ≡ old → ⊥) → (new ≡ 0 → ⊥) → (g' : List ℕ) → g' ≡ putBoth converse n g a b new
-          → Progress allen ones n (OneRoute n a m b) g g' true
-      shrinks ne nz g' q =
-          one-cut n (OneRoute n a m b) g g' G
-          (record {
-            a = a;
-            m = m;
-            b = b;
-            low = lo;
-            route = route;
-            less = λ e. ne (value-is ∙ e ∙ sym e₁);
-            some = λ e. nz (value-is ∙ e);
-            is = rw (← value-is) q;
-          })
+    pub shrinks : (set ≡ 0 → ⊥) → (g' : List ℕ) → g' ≡ putBoth converse n g a b set → Progress allen ones n (OneRoute n a m b) g g' true
+    shrinks nz g' q =
+        one-cut n (OneRoute n a m b) g g' G
+        (record {
+          a = a;
+          m = m;
+          b = b;
+          low = lo;
+          route = route;
+          less = λ e. k .less (k .left ∙ e);
+          some = λ e. nz (k .left ∙ e);
+          is = rw (← k .left) q;
+        })
 
 -- a sweep without a change: no route changes a cell
 pub all-still : (n : ℕ) (g g' : List ℕ) (c : Bool) → c ≡ false → Progress allen ones n (AllTo n n) g g' c → (a m b : ℕ) → a < b → Distinct n a b m → value allen n g' a m b ≡ cell n g' a b

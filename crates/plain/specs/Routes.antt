@@ -40,6 +40,16 @@ pub record StillUntil (n a b : ℕ) (g : List ℕ) (k r : ℕ) : Type 0 where
   pub within : r ≤ n
   pub each : (m : ℕ) → k ≤ m → m < r → Still n a b g m
 
+-- the route from a to b over m changes the cell: it leaves this set
+pub record Changes (n a b : ℕ) (g : List ℕ) (m set : ℕ) : Type 0 where
+  pub left : set ≡ value allen n g a m b
+  pub less : set ≡ cell n g a b → ⊥
+
+-- the route over r is the first from k on that changes the cell, or r is n
+pub record Finds (n a b : ℕ) (g : List ℕ) (k r set : ℕ) : Type 0 where
+  pub passed : StillUntil n a b g k r
+  pub changes : r < n → Changes n a b g r set
+
 -- a part of a sweep over the routes S
 abbrev pub Pass : ℕ → (ℕ → ℕ → ℕ → Type 0) → List ℕ → Swept → List ℕ → Type 0
 Pass n S g Dead g' = DeadEnd allen n g

@@ -1,12 +1,10 @@
 // Plain closing of a grid: sweeps over all routes until one changes nothing.
-ghost use mathlib.Core.Path.{_≡_};
-ghost use mathlib.Core.Bool.{true};
 ghost use Prim.Native.Nat.{_≤_, _<_};
 ghost use Rattle.relation.specs.HalfRows.{HalfRows};
 ghost use Rattle.grid.specs.Cells.{Held};
 ghost use Rattle.grid.specs.Accepted.{Accepted};
 ghost use Rattle.plain.specs.Answers.{PlainCloses};
-ghost use Rattle.plain.specs.Routes.{OneRoute, CellTo, RowTo, AllTo, Still, StillUntil, Pass, Sweeps};
+ghost use Rattle.plain.specs.Routes.{OneRoute, CellTo, RowTo, AllTo, Changes, Finds, Pass, Sweeps};
 use grid::Judged;
 use refusal::Refusal;
 use relation::HALF_ROWS;
@@ -102,54 +100,48 @@ fn sweep_cell(rows: &[u16; HALF_ROWS], g: &mut [u16], n: usize, a: usize, b: usi
     ensures { λ r. ⌜ Pass n (CellTo n a b n) (now (g .entry)) r (now (g .exit)) ⌝ }
 {
     let mut changed = false;
-    let mut k = still_until(rows, g, n, a, b, 0);
-    while k < n {
-        let one = cut_by_route(rows, g, n, a, k, b);
+    let mut k = 0;
+    loop {
+        let found = next_route(rows, g, n, a, b, k);
+        let m = found.over;
+        if m == n {
+            return Swept::Moved(changed);
+        }
+        let one = cut_by_route(g, n, a, m, b, found.set);
         let Swept::Moved(now) = one else {
             return Swept::Dead;
         };
         changed = grid::either(changed, now);
-        k = still_until(rows, g, n, a, b, k + 1);
+        k = m + 1;
     }
-    Swept::Moved(changed)
 }
 
-// Whether the route from a to b over m is seen to leave the cell as it is.
-fn is_still(rows: &[u16; HALF_ROWS], g: &[u16], n: usize, a: usize, b: usize, m: usize) -> bool
-    requires { ⌜ HalfRows (now rows) × (a < n) × (b < n) × (m < n) × Held n (now g) ⌝ }
-    ensures { λ r. ⌜ (r ≡ true → Still n a b (now (g .entry)) m) ⌝ }
-{
-    let set = grid::get(g, n, a, b);
-    let first = grid::get(g, n, a, m);
-    let second = grid::get(g, n, m, b);
-    relation::cut_by(rows, set, first, second) == set
+// A route that changes its cell, by the event that it goes over, and what it leaves.
+pub struct Found {
+    pub over: usize,
+    pub set: u16,
 }
 
-// The first event from k on over which a route may cut cell (a, b), or n. Most routes cut nothing, and this only reads.
-fn still_until(rows: &[u16; HALF_ROWS], g: &[u16], n: usize, a: usize, b: usize, k: usize) -> usize
+// The first route from a to b over an event from k on that changes cell (a, b), or event n. Most routes change nothing, and this only
+// reads.
+fn next_route(rows: &[u16; HALF_ROWS], g: &[u16], n: usize, a: usize, b: usize, k: usize) -> Found
     requires { ⌜ HalfRows (now rows) × (a < n) × (b < n) × (k ≤ n) × Held n (now g) ⌝ }
-    ensures { λ r. ⌜ StillUntil n a b (now (g .entry)) k r ⌝ }
+    ensures { λ r. ⌜ Finds n a b (now (g .entry)) k (r .over) (r .set) ⌝ }
 {
-    let mut at = k;
-    while at < n {
-        if !is_still(rows, g, n, a, b, at) {
-            return at;
+    let mut m = k;
+    while m < n {
+        let set = grid::left_by(rows, g, n, a, m, b);
+        if set != grid::get(g, n, a, b) {
+            return Found { over: m, set };
         }
-        at += 1;
+        m += 1;
     }
-    at
+    Found { over: n, set: 0 }
 }
 
-// Cuts (a, b) to what (a, m) with (m, b) allows.
-fn cut_by_route(
-    rows: &[u16; HALF_ROWS],
-    g: &mut [u16],
-    n: usize,
-    a: usize,
-    m: usize,
-    b: usize,
-) -> Swept
-    requires { ⌜ HalfRows (now rows) × (a < b) × (b < n) × (m < n) × Held n (now g) ⌝ }
+// Cuts (a, b) to this set, which is what (a, m) with (m, b) leaves of it.
+fn cut_by_route(g: &mut [u16], n: usize, a: usize, m: usize, b: usize, set: u16) -> Swept
+    requires { ⌜ (a < b) × (b < n) × (m < n) × Held n (now g) × Changes n a b (now g) m set ⌝ }
     ensures { λ r. ⌜ Pass n (OneRoute n a m b) (now (g .entry)) r (now (g .exit)) ⌝ }
 {
     if m == a {
@@ -158,16 +150,9 @@ fn cut_by_route(
     if m == b {
         return Swept::Moved(false);
     }
-    let old = grid::get(g, n, a, b);
-    let am = grid::get(g, n, a, m);
-    let mb = grid::get(g, n, m, b);
-    let new = relation::cut_by(rows, old, am, mb);
-    if new == old {
-        return Swept::Moved(false);
-    }
-    if new == 0 {
+    if set == 0 {
         return Swept::Dead;
     }
-    grid::put_both(g, n, a, b, new);
+    grid::put_both(g, n, a, b, set);
     Swept::Moved(true)
 }

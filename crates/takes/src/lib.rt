@@ -4,10 +4,10 @@ ghost use Prim.Native.Nat.{_*_, _≤_, _<_};
 ghost use lib.ListN.{length, replicate};
 ghost use Rattle.relation.specs.HalfRows.{HalfRows};
 ghost use Rattle.relation.specs.Composition.{converse};
-ghost use Rattle.grid.specs.Cells.{cell, putBoth, Held};
+ghost use Rattle.grid.specs.Cells.{putBoth, Held};
 ghost use Rattle.theory.specs.Allen.{allen};
 ghost use Rattle.theory.specs.Line.{pairOf, joins};
-ghost use Rattle.theory.specs.Quick.{going, cutTo, turns, run};
+ghost use Rattle.theory.specs.Quick.{going, turns, run};
 ghost use Rattle.theory.specs.Cuts.{fromOf, toOf, cutAt};
 ghost use Rattle.takes.specs.Waiting.{IsPair, Left, Idle};
 ghost use Rattle.takes.specs.Steps.{Waits, waitingIn, Steps, Cuts, Finds, ended};
@@ -83,17 +83,6 @@ pub struct Found {
     pub set: u16,
 }
 
-// What (a, m) with (m, b) leaves of (a, b).
-fn left_by(rows: &[u16; HALF_ROWS], g: &[u16], n: usize, a: usize, m: usize, b: usize) -> u16
-    requires { ⌜ HalfRows (now rows) × (a < n) × (m < n) × (b < n) × Held n (now g) ⌝ }
-    ensures { λ x. ⌜ x ≡ cutTo allen (cell n (now (g .entry))) a m b ⌝ }
-{
-    let ab = grid::get(g, n, a, b);
-    let am = grid::get(g, n, a, m);
-    let mb = grid::get(g, n, m, b);
-    relation::cut_by(rows, ab, am, mb)
-}
-
 // The first cut from event k on that changes something in the take of (i, j), or cut 2 * n. Most cuts change nothing, and this only
 // reads. At i and j nothing is seen to change, and to pass them over would cost more.
 fn cut_from(rows: &[u16; HALF_ROWS], g: &[u16], n: usize, i: usize, j: usize, from: usize) -> Found
@@ -102,14 +91,14 @@ fn cut_from(rows: &[u16; HALF_ROWS], g: &[u16], n: usize, i: usize, j: usize, fr
 {
     let mut k = from;
     while k < n {
-        let first = left_by(rows, g, n, i, j, k);
+        let first = grid::left_by(rows, g, n, i, j, k);
         if first != grid::get(g, n, i, k) {
             return Found {
                 at: k * 2,
                 set: first,
             };
         }
-        let second = left_by(rows, g, n, k, i, j);
+        let second = grid::left_by(rows, g, n, k, i, j);
         if second != grid::get(g, n, k, j) {
             return Found {
                 at: k * 2 + 1,
@@ -128,7 +117,7 @@ fn next_cut(rows: &[u16; HALF_ROWS], g: &[u16], n: usize, i: usize, j: usize, c:
 {
     let k = c / 2;
     if c % 2 == 1 {
-        let set = left_by(rows, g, n, k, i, j);
+        let set = grid::left_by(rows, g, n, k, i, j);
         if set != grid::get(g, n, k, j) {
             return Found { at: c, set };
         }

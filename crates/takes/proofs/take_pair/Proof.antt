@@ -1,5 +1,5 @@
 -- The cuts left, from the grid and list as they are, come to the whole take.
-use mathlib.Core.Path.{_≡_, ap, sym, _∙_}
+use mathlib.Core.Path.{_≡_, sym, _∙_}
 use Prim.Native.Nat.{_-_, _*_, _≤_}
 use lib.ListN.{length}
 use Rattle.theory.specs.Allen.{allen}

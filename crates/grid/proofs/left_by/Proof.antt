@@ -1,7 +1,7 @@
 -- What is read and composed is what the cut leaves.
 use borrow.Author.Needs.{needs}
-use Rattle.takes.proofs.left_by.Statement.{statement}
-use Rattle.takes.proofs.left_by.Tie as tie
+use Rattle.grid.proofs.left_by.Statement.{statement}
+use Rattle.grid.proofs.left_by.Tie as tie
 
 get-requires : tie.Need-get-requires
 get-requires c κs = search needs
