@@ -11,3 +11,4 @@ pub mod TableLaws
 pub mod Laws
 pub mod HalfRowLaws
 pub mod AnswerLaws
+mod PackedLaws

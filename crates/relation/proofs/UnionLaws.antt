@@ -4,8 +4,8 @@ use mathlib.Core.Bool.{Bool, true, false, not, _&&_, _||_}
 use Prim.Native.Nat.{ℕ, zero, suc, _+_, _-_, _*_, _/_, _%_, _^_, _<_}
 use native.Mathlib.Omega.{arith}
 use lib.Dec.{T, eqb, eqb→eq, eqb-refl, lit<}
-use native.Mathlib.Nat.{add-comm, mod-lt, mod-eq-of-lt}
-use lib.Bits.{bitAnd, bitOr, and-comm, and-self, and-mask, or-lt, or-zero-l, or-zero-r, or-shifted-r}
+use native.Mathlib.Nat.{add-comm, mod-lt}
+use lib.Bits.{bitAnd, bitOr, or-lt, or-zero-r, or-shifted-r}
 use lib.Pow.{pow-pos, mod-pow-add}
 use lib.Count.{trailingZeros}
 use Rattle.relation.specs.Meaning.{pickℕ}
@@ -195,9 +195,6 @@ pub record Gathers (f : ℕ → ℕ) (whole out left : ℕ) : Type 0 where
 pub gathers-from : (f : ℕ → ℕ) (a out : ℕ) → out < 8192 → Gathers f (bitOr out (unionOver f a)) out (a % 8192)
 gathers-from f a out l = record { out-lt = l; left-lt = omega arith; adds-up = ap (bitOr out) (sym (union-small f a)) }
 
-pub gathers-start : (f : ℕ → ℕ) (a : ℕ) → Gathers f (unionOver f a) 0 (a % 8192)
-gathers-start f a = subst (λ (w : ℕ). Gathers f w 0 (a % 8192)) (or-zero-l (unionOver f a)) (gathers-from f a 0 (lit< tt))
-
 pub gathers-turn : (f : ℕ → ℕ) (whole out left r x next : ℕ) → f r < 8192 → Next left r → Gathers f whole out left → x ≡ f r
     → next ≡ left - 2 ^ trailingZeros 16 left → Gathers f whole (bitOr out x) next
 gathers-turn f whole out left r x next m n g e d =
@@ -216,10 +213,3 @@ module _ (f : ℕ → ℕ) (whole out left : ℕ) (g : Gathers f whole out left)
   -- a set that lies inside what is gathered lies inside the whole
   pub gathers-holds : (set : ℕ) → set < 65536 → bitAnd set out ≡ set → bitAnd set whole ≡ set
   gathers-holds set h e = ap (bitAnd set) (g .adds-up) ∙ and-or set out (unionOver f left) h e
-
-  -- once all relations are gathered, they are the whole
-  pub gathers-all : out ≡ 8191 → out ≡ whole
-  gathers-all e =
-      let l : whole < 8192 = rw (g .adds-up) (or-lt 13 out (unionOver f left) (g .out-lt) (union-lt f left)) in
-      e ∙ sym (gathers-holds 8191 (lit< tt) (ap (bitAnd 8191) e ∙ and-self 8191))
-      ∙ and-comm 8191 whole ∙ and-mask whole 13 ∙ mod-eq-of-lt l

@@ -6,3 +6,4 @@ pub mod HalfRows
 pub mod Filling
 pub mod Typed
 pub mod Answers
+pub mod Packed

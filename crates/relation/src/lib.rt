@@ -8,6 +8,7 @@ ghost use Rattle.relation.specs.Meaning.{exchanged, pickℕ};
 ghost use Rattle.relation.specs.Sets.{member};
 ghost use Rattle.relation.specs.Typed.{ListsExchanged};
 ghost use Rattle.relation.specs.Composition.{table, entry, converse, composeRow, compose};
+ghost use Rattle.relation.specs.Packed.{pickedOf, FourAt, RowsFrom, Marked};
 ghost use Rattle.relation.specs.HalfRows.{HalfRows};
 ghost use Rattle.relation.specs.Filling.{FilledTo, Column, Joins, Adds, Begins, Half};
 ghost use Rattle.relation.specs.Answers.{saidOf, converseSaid, composeSaid};
@@ -112,36 +113,147 @@ pub fn converse_of(a: u16) -> u16
     out
 }
 
-// One relation with each member of a set. As above, all relations come in turn.
-fn compose_row(t: &[[u16; 13]; 13], r: usize, b: u16) -> u16
-    requires { ⌜ (r < 13) × (now t ≡ table) ⌝ }
-    ensures { λ x. ⌜ x ≡ composeRow r b ⌝ }
+// Relations r to r + 3 with relation s: four sets in one number, with sixteen digits for each.
+fn four_at(t: &[[u16; 13]; 13], r: usize, s: usize) -> u64
+    requires { ⌜ (now t ≡ table) × (r + 3 < 13) × (s < 13) ⌝ }
+    ensures { λ x. ⌜ FourAt r s x ⌝ }
 {
-    let mut out: u16 = 0;
-    let mut s = 0;
-    while s < 13 {
-        out |= given(b, s, t[r][s]);
-        s += 1;
-    }
-    out
+    let p = entry(t, r, s) as u64;
+    let q = entry(t, r + 1, s) as u64;
+    let v = entry(t, r + 2, s) as u64;
+    let w = entry(t, r + 3, s) as u64;
+    p + q * 65536 + v * 4294967296 + w * 281474976710656
 }
 
-// The composition of two sets, from the table: for a single call. Once all relations are there, no more can come.
+// The union of those of four numbers that n marks. Where the four are known to the compiler, it keeps a table of the sixteen
+// answers in memory.
+fn picked(n: u16, p: u64, q: u64, v: u64, w: u64) -> u64
+    ensures { λ x. ⌜ x ≡ pickedOf n p q v w ⌝ }
+{
+    let k = n % 16;
+    match k {
+        0 => 0,
+        1 => p,
+        2 => q,
+        3 => p | q,
+        4 => v,
+        5 => p | v,
+        6 => q | v,
+        7 => p | q | v,
+        8 => w,
+        9 => p | w,
+        10 => q | w,
+        11 => p | q | w,
+        12 => v | w,
+        13 => p | v | w,
+        14 => q | v | w,
+        _ => p | q | v | w,
+    }
+}
+
+// All relations, in each of four sets that n marks.
+fn marked(n: u16) -> u64
+    ensures { λ x. ⌜ Marked n x ⌝ }
+{
+    picked(n, 8191, 536805376, 35180077121536, 2305561534236983296)
+}
+
+// Relations 0 to 3, 4 to 7, and 8 to 11, each with a set but for its eq. They stand one by one, and each is called in one place, so
+// that the compiler works the four sets out.
+fn rows_low(b: u16) -> u64
+    ensures { λ x. ⌜ RowsFrom 0 b x ⌝ }
+{
+    let t = TABLE;
+    let first = picked(
+        b,
+        four_at(&t, 0, 0),
+        four_at(&t, 0, 1),
+        four_at(&t, 0, 2),
+        four_at(&t, 0, 3),
+    );
+    let second = picked(
+        b / 16,
+        four_at(&t, 0, 4),
+        four_at(&t, 0, 5),
+        four_at(&t, 0, 6),
+        four_at(&t, 0, 7),
+    );
+    let third = picked(
+        b / 256,
+        four_at(&t, 0, 8),
+        four_at(&t, 0, 9),
+        four_at(&t, 0, 10),
+        four_at(&t, 0, 11),
+    );
+    first | second | third
+}
+
+fn rows_middle(b: u16) -> u64
+    ensures { λ x. ⌜ RowsFrom 4 b x ⌝ }
+{
+    let t = TABLE;
+    let first = picked(
+        b,
+        four_at(&t, 4, 0),
+        four_at(&t, 4, 1),
+        four_at(&t, 4, 2),
+        four_at(&t, 4, 3),
+    );
+    let second = picked(
+        b / 16,
+        four_at(&t, 4, 4),
+        four_at(&t, 4, 5),
+        four_at(&t, 4, 6),
+        four_at(&t, 4, 7),
+    );
+    let third = picked(
+        b / 256,
+        four_at(&t, 4, 8),
+        four_at(&t, 4, 9),
+        four_at(&t, 4, 10),
+        four_at(&t, 4, 11),
+    );
+    first | second | third
+}
+
+fn rows_high(b: u16) -> u64
+    ensures { λ x. ⌜ RowsFrom 8 b x ⌝ }
+{
+    let t = TABLE;
+    let first = picked(
+        b,
+        four_at(&t, 8, 0),
+        four_at(&t, 8, 1),
+        four_at(&t, 8, 2),
+        four_at(&t, 8, 3),
+    );
+    let second = picked(
+        b / 16,
+        four_at(&t, 8, 4),
+        four_at(&t, 8, 5),
+        four_at(&t, 8, 6),
+        four_at(&t, 8, 7),
+    );
+    let third = picked(
+        b / 256,
+        four_at(&t, 8, 8),
+        four_at(&t, 8, 9),
+        four_at(&t, 8, 10),
+        four_at(&t, 8, 11),
+    );
+    first | second | third
+}
+
+// The composition of two sets, for a single call. Eq stands apart on both sides, since it changes nothing.
 fn compose_of(a: u16, b: u16) -> u16
     ensures { λ x. ⌜ x ≡ compose a b ⌝ }
 {
-    let t = TABLE;
-    let mut out: u16 = 0;
-    let mut left = a % 8192;
-    while left != 0 {
-        let r = lowest(left);
-        out |= compose_row(&t, r, b);
-        if out == 8191 {
-            return out;
-        }
-        left = without_lowest(left);
-    }
-    out
+    let low = rows_low(b) & marked(a);
+    let middle = rows_middle(b) & marked(a / 16);
+    let high = rows_high(b) & marked(a / 256);
+    let four = low | middle | high;
+    let all = (four | four >> 16 | four >> 32 | four >> 48) % 8192;
+    all as u16 | given(a, 12, b % 4096) | given(b, 12, a % 8192)
 }
 
 // The places of the half rows, one for each half set, and the sets at each place: one for each relation, and none for the last three.
