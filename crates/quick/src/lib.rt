@@ -1,7 +1,6 @@
 // Quick closing of a grid.
 ghost use mathlib.Core.Path.{_≡_};
 ghost use Prim.Native.Nat.{_+_, _≤_, _<_};
-ghost use Rattle.relation.specs.HalfRows.{HalfRows};
 ghost use Rattle.grid.specs.Accepted.{Accepted};
 ghost use Rattle.theory.specs.Line.{allPairs, rowsTo};
 ghost use Rattle.takes.specs.Waiting.{Waiting};
@@ -10,8 +9,6 @@ ghost use Rattle.quick.specs.Answers.{quickRule, QuickCloses};
 ghost use Rattle.quick.specs.Steps.{Shows};
 use grid::Judged;
 use refusal::Refusal;
-use relation::HALF_ROWS;
-use relation::UNFILLED;
 use takes::End;
 use takes::Line;
 
@@ -30,17 +27,13 @@ pub fn quick_close(g: &mut [u16], n: usize, limit: usize) -> QuickAnswer
     let judged = grid::judge(g, n);
     match judged {
         Judged::Refused(r) => QuickAnswer::Refused(r),
-        Judged::Accepted => {
-            let mut rows = [UNFILLED; HALF_ROWS];
-            relation::fill_half_rows(&mut rows);
-            close_accepted(&rows, g, n, limit)
-        }
+        Judged::Accepted => close_accepted(g, n, limit),
     }
 }
 
 // Closes an accepted grid.
-fn close_accepted(rows: &[u16; HALF_ROWS], g: &mut [u16], n: usize, limit: usize) -> QuickAnswer
-    requires { ⌜ HalfRows (now rows) × Accepted n (now g) ⌝ }
+fn close_accepted(g: &mut [u16], n: usize, limit: usize) -> QuickAnswer
+    requires { ⌜ Accepted n (now g) ⌝ }
     ensures { λ r. ⌜ Shows n (quickRule n limit (now (g .entry))) r (now (g .exit)) ⌝ }
 {
     if grid::some_empty(g) {
@@ -50,7 +43,7 @@ fn close_accepted(rows: &[u16; HALF_ROWS], g: &mut [u16], n: usize, limit: usize
     let mut ring = [0u16; 1024];
     let mut flag = [0u8; 1024];
     let all = all_waiting(&mut ring, &mut flag, n);
-    let end = takes::takes(rows, g, &mut ring, &mut flag, n, all, limit);
+    let end = takes::takes(g, &mut ring, &mut flag, n, all, limit);
     match end {
         End::Contradiction(t) => {
             grid::clear(g);

@@ -11,9 +11,9 @@ use lib.ListN.{getD, List·getD-eq-default}
 use lib.Bits.{bitOr, or-lt, or-comm, or-shifted-r}
 use Rattle.relation.specs.Comparing.{relOf}
 use Rattle.relation.specs.Meaning.{Event, holds, exchanged, pickℕ}
-use Rattle.relation.specs.Sets.{member, Inside}
+use Rattle.relation.specs.Sets.{member, some, Inside}
 use Rattle.relation.specs.Composition.{Composed, table, entry, converse, composeRow, compose}
-use Rattle.relation.proofs.Tested.{T-of, all, all-at}
+use Rattle.relation.proofs.Tested.{T-of, all, all-at, some-at}
 use Rattle.relation.proofs.Relations.{relOf-lt, exactly-one, exchanged-holds}
 use Rattle.relation.proofs.TableLaws.{agrees, stands}
 use Rattle.relation.proofs.SetLaws.{member-none, member-mark, member-low-marks, same-inside}
@@ -349,6 +349,43 @@ compose-apart a b =
     with-eq zero h = sym (compose-none-right a)
     with-eq (suc zero) h = sym (sym (compose-small-left a 4096) ∙ compose-eq-right (a % 8192) (omega arith))
     with-eq (suc (suc x)) h = absurd (omega arith)
+
+-- whatever the other relation is, each relation is allowed by some
+all-left-test : T (all 13 (λ s. all 13 (λ t. some 13 (λ r. member t (entry r s)))))
+unfolding entry member some
+all-left-test = tt
+
+all-right-test : T (all 13 (λ r. all 13 (λ t. some 13 (λ s. member t (entry r s)))))
+unfolding entry member some
+all-right-test = tt
+
+all-test : T (all 13 (λ t. member t 8191))
+unfolding member
+all-test = tt
+
+all-there : (t : ℕ) → t < 13 → T (member t 8191)
+all-there = all-at 13 (λ t. member t 8191) all-test
+
+-- all relations with a set that has a member allow all
+pub compose-all-left : (b : ℕ) → (b ≡ 0 → ⊥) → b < 8192 → compose 8191 b ≡ 8191
+compose-all-left b nz l =
+    same-inside (compose 8191 b) 8191 (compose-lt 8191 b) (lit< tt) (record { each = λ t h w. all-there t h })
+    (record {
+      each = λ t h w.
+          let m = some-member b (omega (arith, nz)) l in
+          let r = some-at 13 (λ r. member t (entry r (m .0))) (all-at 13 (λ t. some 13 (λ r. member t (entry r (m .0)))) (all-at 13 (λ s. all 13 (λ t. some 13 (λ r. member t (entry r s)))) all-left-test (m .0) (m .1)) t h) in
+          compose-to 8191 b t h (record { r = r .0; s = m .0; r-lt = r .1; s-lt = m .1; r-in = all-there (r .0) (r .1); s-in = m .2; stood = r .2 });
+    })
+
+pub compose-all-right : (a : ℕ) → (a ≡ 0 → ⊥) → a < 8192 → compose a 8191 ≡ 8191
+compose-all-right a nz l =
+    same-inside (compose a 8191) 8191 (compose-lt a 8191) (lit< tt) (record { each = λ t h w. all-there t h })
+    (record {
+      each = λ t h w.
+          let m = some-member a (omega (arith, nz)) l in
+          let s = some-at 13 (λ s. member t (entry (m .0) s)) (all-at 13 (λ t. some 13 (λ s. member t (entry (m .0) s))) (all-at 13 (λ r. all 13 (λ t. some 13 (λ s. member t (entry r s)))) all-right-test (m .0) (m .1)) t h) in
+          compose-to a 8191 t h (record { r = m .0; s = s .0; r-lt = m .1; s-lt = s .1; r-in = m .2; s-in = all-there (s .0) (s .1); stood = s .2 });
+    })
 
 -- eq is in the composition of a set that has a member with its converse
 pub eq-inside : (a : ℕ) → (a ≡ 0 → ⊥) → a < 8192 → Inside 4096 (compose a (converse a))

@@ -4,13 +4,13 @@ use mathlib.Core.Bool.{Bool, true, false, _||_}
 use Prim.Native.Nat.{ℕ, zero, suc, _+_, _*_, _/_, _%_, _^_, _≤_, _<_}
 use native.Mathlib.Omega.{arith}
 use native.Mathlib.Nat.{zero-div, mod-eq-of-lt}
-use lib.Dec.{lit<}
-use lib.Bits.{bitAnd, bitOr, or-lt, or-zero-l, or-zero-r, or-comm, and-zero-r, and-mask, or-shr, or-mod, and-shr, and-mod}
+use lib.Dec.{eqb, eqb→eq, lit<}
+use lib.Bits.{bitAnd, bitOr, or-lt, or-zero-l, or-comm, and-zero-r, and-le-r, and-mask, or-shr, or-mod, and-shr, and-mod}
 use Rattle.relation.specs.Meaning.{pickℕ}
 use Rattle.relation.specs.Sets.{member, unionOver}
 use Rattle.relation.specs.Composition.{entry, composeRow, compose}
 use Rattle.relation.specs.Packed.{part, pickedOf, FourAt, RowsFrom, Marked}
-use Rattle.relation.proofs.Tested.{or-assoc}
+use Rattle.relation.proofs.Tested.{T-of, or-assoc, all, all-at}
 use Rattle.relation.proofs.SetLaws.{member-or, member-high, same}
 use Rattle.relation.proofs.UnionLaws.{below-first, below-next, union-lt, union-small, union-mark}
 use Rattle.relation.proofs.Laws.{entry-small, row-lt, compose-eq-left, compose-apart}
@@ -208,13 +208,25 @@ pub the-last : (x : ℕ) → 15 ≤ x % 16 → x % 16 ≡ 15
 the-last x h = omega arith
 
 -- all relations, in each set that n marks
-no-pick : (b : Bool) → pickℕ b 0 0 ≡ 0
-no-pick true = refl
-no-pick false = refl
+abbrev spread : ℕ → ℕ
+spread d = bitAnd (d * 35185445863425) 281479271743489 * 8191
 
-pub marked-parts : (n : ℕ) → Marked n (pickedOf n 8191 536805376 35180077121536 2305561534236983296)
-marked-parts n zero h = part-picked 0 n 8191 536805376 35180077121536 2305561534236983296 ∙ simp (no-pick, or-zero-r)
-marked-parts n (suc zero) h = part-picked 1 n 8191 536805376 35180077121536 2305561534236983296 ∙ simp (no-pick, or-zero-l, or-zero-r)
-marked-parts n (suc (suc zero)) h = part-picked 2 n 8191 536805376 35180077121536 2305561534236983296 ∙ simp (no-pick, or-zero-l, or-zero-r)
-marked-parts n (suc (suc (suc zero))) h = part-picked 3 n 8191 536805376 35180077121536 2305561534236983296 ∙ simp (no-pick, or-zero-l)
-marked-parts n (suc (suc (suc (suc l)))) h = absurd (omega arith)
+spread-test : all 16 (λ d. all 4 (λ l. eqb (part l (spread d)) (pickℕ (member l d) 8191 0))) ≡ true
+unfolding member
+spread-test = refl
+
+last-four : (l n : ℕ) → l < 4 → member l (n % 16) ≡ member l n
+unfolding member
+last-four zero n h = ap (λ (x : ℕ). eqb x 1) (digit-0 n)
+last-four (suc zero) n h = ap (λ (x : ℕ). eqb x 1) (digit-1 n)
+last-four (suc (suc zero)) n h = ap (λ (x : ℕ). eqb x 1) (digit-2 n)
+last-four (suc (suc (suc zero))) n h = ap (λ (x : ℕ). eqb x 1) (digit-3 n)
+last-four (suc (suc (suc (suc l)))) n h = absurd (omega arith)
+
+pub marked-parts : (n : ℕ) → Marked n (spread (n % 16))
+marked-parts n l h =
+    let at = all-at 16 (λ d. all 4 (λ l. eqb (part l (spread d)) (pickℕ (member l d) 8191 0))) (T-of spread-test) (n % 16) (omega arith) in
+    eqb→eq _ _ (all-at 4 (λ l. eqb (part l (spread (n % 16))) (pickℕ (member l (n % 16)) 8191 0)) at l h) ∙ ap (λ (b : Bool). pickℕ b 8191 0) (last-four l n h)
+
+pub spread-lt : (d : ℕ) → spread d < 2305843009213693952
+spread-lt d = omega (arith, and-le-r (d * 35185445863425) 281479271743489)

@@ -5,6 +5,7 @@ use lib.Bits.{bitOr}
 use Rattle.relation.specs.Meaning.{pickℕ}
 use Rattle.relation.specs.Sets.{member}
 use Rattle.relation.specs.Composition.{entry, composeRow}
+use Rattle.relation.specs.declared.Rows.{Rows}
 
 -- set l of the four
 abbrev pub part : ℕ → ℕ → ℕ
@@ -25,3 +26,9 @@ RowsFrom r b x = (l : ℕ) → l < 4 → part l x ≡ composeRow (r + l) (b % 40
 -- all relations in each of the four sets that n marks
 abbrev pub Marked : ℕ → ℕ → Type 0
 Marked n x = (l : ℕ) → l < 4 → part l x ≡ pickℕ (member l n) 8191 0
+
+-- the rows are those of their set
+pub record RowsOf (r : Rows) : Type 0 where
+  pub low : RowsFrom 0 (r .set) (r .low)
+  pub middle : RowsFrom 4 (r .set) (r .middle)
+  pub high : RowsFrom 8 (r .set) (r .high)

@@ -8,7 +8,7 @@ ghost use Rattle.relation.specs.Meaning.{exchanged, pickℕ};
 ghost use Rattle.relation.specs.Sets.{member};
 ghost use Rattle.relation.specs.Typed.{ListsExchanged};
 ghost use Rattle.relation.specs.Composition.{table, entry, converse, composeRow, compose};
-ghost use Rattle.relation.specs.Packed.{pickedOf, FourAt, RowsFrom, Marked};
+ghost use Rattle.relation.specs.Packed.{pickedOf, FourAt, RowsFrom, Marked, RowsOf};
 ghost use Rattle.relation.specs.HalfRows.{HalfRows};
 ghost use Rattle.relation.specs.Filling.{FilledTo, Column, Joins, Adds, Begins, Half};
 ghost use Rattle.relation.specs.Answers.{saidOf, converseSaid, composeSaid};
@@ -151,11 +151,12 @@ fn picked(n: u16, p: u64, q: u64, v: u64, w: u64) -> u64
     }
 }
 
-// All relations, in each of four sets that n marks.
+// All relations, in each of four sets that n marks. The product puts the four last digits of n sixteen apart.
 fn marked(n: u16) -> u64
     ensures { λ x. ⌜ Marked n x ⌝ }
 {
-    picked(n, 8191, 536805376, 35180077121536, 2305561534236983296)
+    let digits = (n % 16) as u64;
+    (digits * 35185445863425 & 281479271743489) * 8191
 }
 
 // Relations 0 to 3, 4 to 7, and 8 to 11, each with a set but for its eq. They stand one by one, and each is called in one place, so
@@ -244,16 +245,47 @@ fn rows_high(b: u16) -> u64
     first | second | third
 }
 
-// The composition of two sets, for a single call. Eq stands apart on both sides, since it changes nothing.
+// The twelve relations but eq, each with a set but for its eq, four to a number; and the set.
+pub struct Rows {
+    pub low: u64,
+    pub middle: u64,
+    pub high: u64,
+    pub set: u16,
+}
+
+pub fn rows_of(b: u16) -> Rows
+    ensures { λ r. ⌜ (r .set ≡ b) × RowsOf r ⌝ }
+{
+    let low = rows_low(b);
+    let middle = rows_middle(b);
+    let high = rows_high(b);
+    Rows {
+        low,
+        middle,
+        high,
+        set: b,
+    }
+}
+
+// The composition of a set with the set of the rows. Eq stands apart on both sides, since it changes nothing.
+pub fn compose_by(a: u16, rows: Rows) -> u16
+    requires { ⌜ RowsOf rows ⌝ }
+    ensures { λ x. ⌜ x ≡ compose a (rows .set) ⌝ }
+{
+    let low = rows.low & marked(a);
+    let middle = rows.middle & marked(a / 16);
+    let high = rows.high & marked(a / 256);
+    let four = low | middle | high;
+    let all = (four | four >> 16 | four >> 32 | four >> 48) % 8192;
+    all as u16 | given(a, 12, rows.set % 4096) | given(rows.set, 12, a % 8192)
+}
+
+// The composition of two sets, for a single call.
 fn compose_of(a: u16, b: u16) -> u16
     ensures { λ x. ⌜ x ≡ compose a b ⌝ }
 {
-    let low = rows_low(b) & marked(a);
-    let middle = rows_middle(b) & marked(a / 16);
-    let high = rows_high(b) & marked(a / 256);
-    let four = low | middle | high;
-    let all = (four | four >> 16 | four >> 32 | four >> 48) % 8192;
-    all as u16 | given(a, 12, b % 4096) | given(b, 12, a % 8192)
+    let rows = rows_of(b);
+    compose_by(a, rows)
 }
 
 // The places of the half rows, one for each half set, and the sets at each place: one for each relation, and none for the last three.

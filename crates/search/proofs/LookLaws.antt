@@ -13,6 +13,8 @@ use lib.IntN.{ℤ}
 use lib.ListN.{length}
 use types.Run.{OneOf}
 use denote.Enum.Declared.{tagOf}
+use Rattle.takes.specs.Steps.{Fair}
+use Rattle.theory.proofs.GivenLaws.{fine}
 use Rattle.relation.specs.Sets.{member}
 use Rattle.relation.proofs.SetLaws.{member-mark}
 use Rattle.relation.proofs.LowestLaws.{mark-le}
@@ -69,6 +71,11 @@ pub a-grid : (e : End) (t : ℕ) (g : List ℕ) → e ≡ Closed t → triedBy (
 a-grid e t g q = ap (λ (x : End). triedBy (ended x g)) q
 
 -- the grid that a try leaves
+pub searched-fair : (n : ℕ) (g : List ℕ) → Searched n g → Fair n g
+searched-fair n g S =
+    let f = fine n g (S .accepted) in
+    record { few = f .few; fits = f .fits; mirrored = f .mirrored; diagonal = f .diagonal; topped = f .topped; full = S .full }
+
 pub next-searched : (n i j r v : ℕ) (g g' : List ℕ) (e : End) → i < j → j < n → r < 13 → thereAt n (i, j) r g ≡ true → Searched n g
     → triedBy (ended e g') ≡ tryAt n (i, j) r g → e ≡ Closed v → length g' ≡ n * n → Searched n g'
 next-searched n i j r v g g' e up hj lt is S tried ends long =

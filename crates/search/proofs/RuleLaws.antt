@@ -16,7 +16,9 @@ use Rattle.relation.proofs.Tested.{all, all-at}
 use Rattle.grid.specs.Cells.{putBoth}
 use Rattle.theory.specs.Allen.{allen}
 use Rattle.theory.specs.Line.{pairOf, joins, occurs}
-use Rattle.theory.specs.Quick.{Out, going, Ended, contradiction, goOn, run}
+use Rattle.takes.specs.Steps.{Fair}
+use Rattle.takes.proofs.StepsLaws.{put-fair}
+use Rattle.theory.specs.Quick.{Out, dead, going, Ended, contradiction, goOn, run}
 use Rattle.theory.specs.Search.{Pair, Tried, emptied, closed, Found, placed, none, gaveUp, orNext, turnOf, relationsFrom, row, rows, pairsFrom}
 use Rattle.placing.specs.Settling.{settles, Settled}
 use Rattle.search.specs.Rule.{enough, triedBy, tryAt}
@@ -123,6 +125,14 @@ try-is n i j r v g h q w e a b z f =
     ap triedBy
     (f ∙ ap (λ (o : Out). goOn o (contradiction 0) (run allen n enough 0)) a ∙ ap (λ (x : ℕ). run allen n enough 0 (putBoth converse n g i j x) (joins (pairOf i j) w)) b
     ∙ ap (run allen n enough 0 (putBoth converse n g i j (2 ^ r))) (ap (joins (pairOf i j)) z ∙ joins-alone (pairOf i j)))
+
+-- the cell and its mirror cut to one relation, as they were written
+abbrev gridOf : Out → List ℕ
+gridOf dead = []
+gridOf (going g q) = g
+
+pub cut-fair : (n i j r v : ℕ) (g h q q' : List ℕ) → Fair n g → i < n → j < n → (i ≡ j → ⊥) → r < 13 → going h q ≡ going (putBoth converse n g i j v) q' → v ≡ 2 ^ r → Fair n h
+cut-fair n i j r v g h q q' F hi hj ne hr e m = subst (Fair n) (sym (ap gridOf e ∙ ap (putBoth converse n g i j) m)) (put-fair n i j r g F hi hj ne hr)
 
 -- ---- past the last cell
 

@@ -2,21 +2,18 @@
 ghost use mathlib.Core.Path.{_≡_};
 ghost use Prim.Native.Nat.{_*_, _≤_, _<_};
 ghost use lib.ListN.{length, take};
-ghost use Rattle.relation.specs.HalfRows.{HalfRows};
 ghost use Rattle.grid.specs.Cells.{Held};
 ghost use Rattle.grid.specs.Accepted.{Accepted, judgedNumber};
 ghost use Rattle.theory.specs.Allen.{allen};
 ghost use Rattle.theory.specs.Line.{allPairs};
 ghost use Rattle.theory.specs.Quick.{run};
 ghost use Rattle.takes.specs.Waiting.{Idle};
-ghost use Rattle.takes.specs.Steps.{ended};
+ghost use Rattle.takes.specs.Steps.{Fair, ended};
 ghost use Rattle.search.specs.Rule.{enough, triedBy, tryAt, searchOf};
 ghost use Rattle.search.specs.Answers.{saidOf, searchRefusal, Looks};
 ghost use Rattle.search.specs.Steps.{saidWith, Shows, Settles, Answers, Searched, Stands, Steps, Passes, goesOn, after};
 use grid::Judged;
 use refusal::Refusal;
-use relation::HALF_ROWS;
-use relation::UNFILLED;
 use takes::End;
 use takes::Line;
 
@@ -111,7 +108,6 @@ fn pass_decided(g: &[u16], n: usize, from: Stand, allowance: u32) -> Stand
 
 // One try: cuts cell (i, j) and its mirror to relation r, and closes from that pair. Nothing waits before or afterwards.
 fn attempt(
-    rows: &[u16; HALF_ROWS],
     ring: &mut [u16; 1024],
     flag: &mut [u8; 1024],
     g: &mut [u16],
@@ -120,18 +116,17 @@ fn attempt(
     j: usize,
     r: usize,
 ) -> End
-    requires { ⌜ HalfRows (now rows) × Idle n (now ring) (now flag) × Held n (now g) × (i < n) × (j < n) × (i ≡ j → ⊥) × (r < 13) ⌝ }
+    requires { ⌜ Idle n (now ring) (now flag) × Fair n (now g) × (i < n) × (j < n) × (i ≡ j → ⊥) × (r < 13) ⌝ }
     ensures tried { λ e. ⌜ triedBy (ended e (now (g .exit))) ≡ tryAt n (i, j) r (now (g .entry)) ⌝ }
     ensures idle { λ e. ⌜ Idle n (now (ring .exit)) (now (flag .exit)) ⌝ }
 {
     let none = Line { head: 0, len: 0 };
     let one = takes::write_cut(g, ring, flag, n, none, i, j, relation::mark(r));
-    takes::takes(rows, g, ring, flag, n, one, ENOUGH)
+    takes::takes(g, ring, flag, n, one, ENOUGH)
 }
 
 // One try on a copy of the grid, at the front of a room for a grid.
 fn attempt_in(
-    rows: &[u16; HALF_ROWS],
     ring: &mut [u16; 1024],
     flag: &mut [u8; 1024],
     g: &[u16],
@@ -141,18 +136,17 @@ fn attempt_in(
     j: usize,
     r: usize,
 ) -> End
-    requires { ⌜ HalfRows (now rows) × Idle n (now ring) (now flag) × (length (now g) ≡ n * n) × Held n (now cut) × (i < n) × (j < n) × (i ≡ j → ⊥) × (r < 13) ⌝ }
+    requires { ⌜ Idle n (now ring) (now flag) × (length (now g) ≡ n * n) × Fair n (now g) × Held n (now cut) × (i < n) × (j < n) × (i ≡ j → ⊥) × (r < 13) ⌝ }
     ensures tried { λ e. ⌜ triedBy (ended e (take (n * n) (now (cut .exit)))) ≡ tryAt n (i, j) r (now (g .entry)) ⌝ }
     ensures idle { λ e. ⌜ Idle n (now (ring .exit)) (now (flag .exit)) ⌝ }
 {
     let cells = n * n;
     grid::copy(cut, g, cells);
-    attempt(rows, ring, flag, &mut cut[..cells], n, i, j, r)
+    attempt(ring, flag, &mut cut[..cells], n, i, j, r)
 }
 
 // Decides the cells of a closed grid from a stand on. Past the last, the placing is written to the room.
 pub fn look(
-    rows: &[u16; HALF_ROWS],
     ring: &mut [u16; 1024],
     flag: &mut [u8; 1024],
     n: usize,
@@ -161,7 +155,7 @@ pub fn look(
     allowance: u32,
     room: &mut [i32],
 ) -> Looked
-    requires { ⌜ HalfRows (now rows) × Idle n (now ring) (now flag) × Stands n allowance from × Searched n (now g) × (length (now room) ≡ 2 * n) ⌝ }
+    requires { ⌜ Idle n (now ring) (now flag) × Stands n allowance from × Searched n (now g) × (length (now room) ≡ 2 * n) ⌝ }
     ensures shows { λ l. ⌜ Shows n allowance (goesOn n allowance (now (g .entry)) from) (now (room .entry)) l (now (room .exit)) ⌝ }
     ensures idle { λ l. ⌜ Idle n (now (ring .exit)) (now (flag .exit)) ⌝ }
 {
@@ -179,13 +173,13 @@ pub fn look(
                 return came_to(Outcome::GaveUp, used);
             }
             used += 1;
-            let answer = attempt_in(rows, ring, flag, g, &mut work, n, at.i, at.j, r);
+            let answer = attempt_in(ring, flag, g, &mut work, n, at.i, at.j, r);
             let End::Closed(_takes) = answer else {
                 r += 1;
                 continue;
             };
             let stand = step(n, at, used);
-            let below = look(rows, ring, flag, n, stand, &work[..cells], allowance, room);
+            let below = look(ring, flag, n, stand, &work[..cells], allowance, room);
             let said = below.outcome;
             let Outcome::None = said else {
                 return below;
@@ -210,37 +204,30 @@ fn settled(g: &[u16], n: usize, tries: u32, room: &mut [i32]) -> Looked
 }
 
 // Closes a grid from the list of all pairs.
-fn close_all(
-    rows: &[u16; HALF_ROWS],
-    ring: &mut [u16; 1024],
-    flag: &mut [u8; 1024],
-    g: &mut [u16],
-    n: usize,
-) -> End
-    requires { ⌜ HalfRows (now rows) × Idle n (now ring) (now flag) × Held n (now g) ⌝ }
+fn close_all(ring: &mut [u16; 1024], flag: &mut [u8; 1024], g: &mut [u16], n: usize) -> End
+    requires { ⌜ Idle n (now ring) (now flag) × Fair n (now g) ⌝ }
     ensures closed { λ e. ⌜ ended e (now (g .exit)) ≡ run allen n enough 0 (now (g .entry)) (allPairs n) ⌝ }
     ensures idle { λ e. ⌜ Idle n (now (ring .exit)) (now (flag .exit)) ⌝ }
 {
     let all = quick::all_waiting(ring, flag, n);
-    takes::takes(rows, g, ring, flag, n, all, ENOUGH)
+    takes::takes(g, ring, flag, n, all, ENOUGH)
 }
 
 // Copies an accepted grid to the front of a working grid, and closes it there.
 fn close_copy(
-    rows: &[u16; HALF_ROWS],
     ring: &mut [u16; 1024],
     flag: &mut [u8; 1024],
     g: &[u16],
     work: &mut [u16],
     n: usize,
 ) -> End
-    requires { ⌜ HalfRows (now rows) × Idle n (now ring) (now flag) × Accepted n (now g) × Held n (now work) ⌝ }
+    requires { ⌜ Idle n (now ring) (now flag) × (length (now g) ≡ n * n) × Fair n (now g) × Held n (now work) ⌝ }
     ensures closed { λ e. ⌜ triedBy (ended e (take (n * n) (now (work .exit)))) ≡ triedBy (run allen n enough 0 (now (g .entry)) (allPairs n)) ⌝ }
     ensures idle { λ e. ⌜ Idle n (now (ring .exit)) (now (flag .exit)) ⌝ }
 {
     let cells = n * n;
     grid::copy(work, g, cells);
-    close_all(rows, ring, flag, &mut work[..cells], n)
+    close_all(ring, flag, &mut work[..cells], n)
 }
 
 // The search's end as an answer.
@@ -264,12 +251,10 @@ fn search_accepted(g: &[u16], n: usize, allowance: u32, room: &mut [i32]) -> Pla
     if grid::some_empty(g) {
         return PlaceAnswer::None(0);
     }
-    let mut rows = [UNFILLED; HALF_ROWS];
-    relation::fill_half_rows(&mut rows);
     let mut ring = [0u16; 1024];
     let mut flag = [0u8; 1024];
     let mut work = [0u16; 1024];
-    let first = close_copy(&rows, &mut ring, &mut flag, g, &mut work, n);
+    let first = close_copy(&mut ring, &mut flag, g, &mut work, n);
     let End::Closed(_takes) = first else {
         return PlaceAnswer::None(0);
     };
@@ -281,7 +266,6 @@ fn search_accepted(g: &[u16], n: usize, allowance: u32, room: &mut [i32]) -> Pla
         tries: 0,
     };
     let found = look(
-        &rows,
         &mut ring,
         &mut flag,
         n,

@@ -1,12 +1,16 @@
 -- How the code's answer, grid and waiting list show a step of quick closing. Inner functions cite this; the public statements do not. Assumes nothing.
 use mathlib.Core.Path.{_≡_}
 use mathlib.Core.List.{List}
-use Prim.Native.Nat.{ℕ, _*_, _≤_, _<_}
+use Prim.Native.Nat.{ℕ, _*_, _/_, _≤_, _<_}
 use lib.ListN.{length}
+use Rattle.relation.specs.Composition.{converse}
+use Rattle.relation.specs.Packed.{RowsOf}
+use Rattle.relation.specs.declared.Rows.{Rows}
 use Rattle.grid.specs.Cells.{cell}
+use Rattle.theory.specs.Calculus.{Sub}
 use Rattle.theory.specs.Allen.{allen}
 use Rattle.theory.specs.Quick.{Out, dead, going, cutTo, Ended, contradiction, closed, paused}
-use Rattle.theory.specs.Cuts.{fromOf, viaOf, toOf, cutsFrom}
+use Rattle.theory.specs.Cuts.{fromOf, viaOf, toOf, cutAt, cutsFrom}
 use Rattle.takes.specs.Waiting.{queueOf, Waiting}
 use Rattle.takes.specs.declared.Line.{Line}
 use Rattle.takes.specs.declared.Cut.{Cut}
@@ -35,14 +39,34 @@ pub record Steps (n : ℕ) (o : Out) (r : Cut) (g ring flag : List ℕ) : Type 0
   pub same : seen r g ring ≡ o
   pub sound : Sound n r ring flag
 
--- cut c in the take of (i, j) leaves its cell as it is
-abbrev pub Stays : ℕ → ℕ → ℕ → List ℕ → ℕ → Type 0
-Stays n i j g c = cutTo allen (cell n g) (fromOf i c) (viaOf i j c) (toOf j c) ≡ cell n g (fromOf i c) (toOf j c)
+-- a grid in the midst of closing: mirrored, and no cell is empty
+pub record Fair (n : ℕ) (g : List ℕ) : Type 0 where
+  pub few : n ≤ 32
+  pub fits : n * n ≤ length g
+  pub mirrored : (i j : ℕ) → i < n → j < n → cell n g j i ≡ converse (cell n g i j)
+  pub diagonal : (i : ℕ) → i < n → cell n g i i ≡ 4096
+  pub topped : (i j : ℕ) → i < n → j < n → Sub allen (cell n g i j) 8191
+  pub full : (i j : ℕ) → i < n → j < n → cell n g i j ≡ 0 → ⊥
 
--- cut c changes its cell: it leaves this set
+abbrev pub FairIf : ℕ → Cut → List ℕ → Type 0
+FairIf n Dead g = Unit {0}
+FairIf n (Going l) g = Fair n g
+
+-- the rows of (i, j) and of (j, i)
+pub record Sees (n i j : ℕ) (g : List ℕ) (v w : Rows) : Type 0 where
+  pub there : RowsOf v
+  pub set : v .set ≡ cell n g i j
+  pub back : RowsOf w
+  pub mirror : w .set ≡ cell n g j i
+
+-- cut c in the take of (i, j) changes nothing, whatever waits
+abbrev pub Quiet : ℕ → ℕ → ℕ → List ℕ → ℕ → Type 0
+Quiet n i j g c = (q : List ℕ) → cutAt allen n i j c g q ≡ going g q
+
+-- cut c leaves this set of its cell, and that is less, where it is made
 pub record Cuts (n i j : ℕ) (g : List ℕ) (c set : ℕ) : Type 0 where
-  pub left : set ≡ cutTo allen (cell n g) (fromOf i c) (viaOf i j c) (toOf j c)
-  pub less : set ≡ cell n g (fromOf i c) (toOf j c) → ⊥
+  pub left : (c / 2 ≡ i → ⊥) → set ≡ cutTo allen (cell n g) (fromOf i c) (viaOf i j c) (toOf j c)
+  pub less : (c / 2 ≡ i → ⊥) → set ≡ cell n g (fromOf i c) (toOf j c) → ⊥
 
 -- the cuts from c on come to those from r on, whatever waits
 pub record Passes (n i j : ℕ) (g : List ℕ) (c r : ℕ) : Type 0 where

@@ -2,7 +2,6 @@
 ghost use mathlib.Core.Path.{_≡_};
 ghost use Prim.Native.Nat.{_*_, _≤_, _<_};
 ghost use lib.ListN.{length, replicate};
-ghost use Rattle.relation.specs.HalfRows.{HalfRows};
 ghost use Rattle.relation.specs.Composition.{converse};
 ghost use Rattle.grid.specs.Cells.{putBoth, Held};
 ghost use Rattle.theory.specs.Allen.{allen};
@@ -10,8 +9,8 @@ ghost use Rattle.theory.specs.Line.{pairOf, joins};
 ghost use Rattle.theory.specs.Quick.{going, turns, run};
 ghost use Rattle.theory.specs.Cuts.{fromOf, toOf, cutAt};
 ghost use Rattle.takes.specs.Waiting.{IsPair, Left, Idle};
-ghost use Rattle.takes.specs.Steps.{Waits, waitingIn, Steps, Cuts, Finds, ended};
-use relation::HALF_ROWS;
+ghost use Rattle.takes.specs.Steps.{Waits, waitingIn, Steps, Fair, FairIf, Sees, Cuts, Finds, ended};
+use relation::Rows;
 
 // The waiting list: it starts at head in the ring and is len pairs long.
 pub struct Line {
@@ -84,22 +83,24 @@ pub struct Found {
 }
 
 // The first cut from event k on that changes something in the take of (i, j), or cut 2 * n. Most cuts change nothing, and this only
-// reads. At i and j nothing is seen to change, and to pass them over would cost more.
-fn cut_from(rows: &[u16; HALF_ROWS], g: &[u16], n: usize, i: usize, j: usize, from: usize) -> Found
-    requires { ⌜ HalfRows (now rows) × (i < n) × (j < n) × (from ≤ n) × Held n (now g) ⌝ }
+// reads. Both cuts at k are made in its own row, the first of them turned round: so the rows of (i, j) and of (j, i) serve for all k.
+fn cut_from(v: Rows, w: Rows, g: &[u16], n: usize, i: usize, j: usize, from: usize) -> Found
+    requires { ⌜ Sees n i j (now g) v w × (i < n) × (j < n) × (from ≤ n) × Fair n (now g) ⌝ }
     ensures { λ r. ⌜ Finds n i j (now (g .entry)) (from * 2) (r .at) (r .set) ⌝ }
 {
     let mut k = from;
     while k < n {
-        let first = grid::left_by(rows, g, n, i, j, k);
-        if first != grid::get(g, n, i, k) {
+        let ki = grid::get(g, n, k, i);
+        let kj = grid::get(g, n, k, j);
+        let first = ki & relation::compose_by(kj, w);
+        if first != ki {
             return Found {
                 at: k * 2,
-                set: first,
+                set: relation::converse_of(first),
             };
         }
-        let second = grid::left_by(rows, g, n, k, i, j);
-        if second != grid::get(g, n, k, j) {
+        let second = kj & relation::compose_by(ki, v);
+        if second != kj {
             return Found {
                 at: k * 2 + 1,
                 set: second,
@@ -111,18 +112,20 @@ fn cut_from(rows: &[u16; HALF_ROWS], g: &[u16], n: usize, i: usize, j: usize, fr
 }
 
 // The first cut from c on that changes something in the take of (i, j), or cut 2 * n.
-fn next_cut(rows: &[u16; HALF_ROWS], g: &[u16], n: usize, i: usize, j: usize, c: usize) -> Found
-    requires { ⌜ HalfRows (now rows) × (i < n) × (j < n) × (c ≤ n * 2) × Held n (now g) ⌝ }
+fn next_cut(v: Rows, w: Rows, g: &[u16], n: usize, i: usize, j: usize, c: usize) -> Found
+    requires { ⌜ Sees n i j (now g) v w × (i < n) × (j < n) × (c ≤ n * 2) × Fair n (now g) ⌝ }
     ensures { λ r. ⌜ Finds n i j (now (g .entry)) c (r .at) (r .set) ⌝ }
 {
     let k = c / 2;
     if c % 2 == 1 {
-        let set = grid::left_by(rows, g, n, k, i, j);
-        if set != grid::get(g, n, k, j) {
+        let ki = grid::get(g, n, k, i);
+        let kj = grid::get(g, n, k, j);
+        let set = kj & relation::compose_by(ki, v);
+        if set != kj {
             return Found { at: c, set };
         }
     }
-    cut_from(rows, g, n, i, j, k + c % 2)
+    cut_from(v, w, g, n, i, j, k + c % 2)
 }
 
 // The two events of the cell that cut c in the take of (i, j) cuts.
@@ -166,9 +169,8 @@ fn make_cut(
     Cut::Going(write_cut(g, ring, flag, n, l, from_of(i, c), to_of(j, c), set))
 }
 
-// One take of (i, j).
+// One take of (i, j). Where nothing is said of i to j, it changes nothing.
 fn take_pair(
-    rows: &[u16; HALF_ROWS],
     g: &mut [u16],
     ring: &mut [u16; 1024],
     flag: &mut [u8; 1024],
@@ -177,13 +179,20 @@ fn take_pair(
     i: usize,
     j: usize,
 ) -> Cut
-    requires { ⌜ HalfRows (now rows) × (i < n) × (j < n) × (i ≡ j → ⊥) × Held n (now g) × Waits n (now ring) (now flag) l ⌝ }
-    ensures { λ r. ⌜ Steps n (turns allen n i j n 0 (now (g .entry)) (waitingIn (now (ring .entry)) l)) r (now (g .exit)) (now (ring .exit)) (now (flag .exit)) ⌝ }
+    requires { ⌜ (i < n) × (j < n) × (i ≡ j → ⊥) × Fair n (now g) × Waits n (now ring) (now flag) l ⌝ }
+    ensures steps { λ r. ⌜ Steps n (turns allen n i j n 0 (now (g .entry)) (waitingIn (now (ring .entry)) l)) r (now (g .exit)) (now (ring .exit)) (now (flag .exit)) ⌝ }
+    ensures fair { λ r. ⌜ FairIf n r (now (g .exit)) ⌝ }
 {
+    let set = grid::get(g, n, i, j);
+    if set == grid::ALL {
+        return Cut::Going(l);
+    }
+    let v = relation::rows_of(set);
+    let w = relation::rows_of(grid::get(g, n, j, i));
     let mut at = l;
     let mut c = 0;
     loop {
-        let found = next_cut(rows, g, n, i, j, c);
+        let found = next_cut(v, w, g, n, i, j, c);
         let next = found.at;
         if next == n * 2 {
             return Cut::Going(at);
@@ -230,7 +239,6 @@ fn clear_flags(flag: &mut [u8; 1024])
 
 // At most limit takes, after which the waiting list is empty.
 pub fn takes(
-    rows: &[u16; HALF_ROWS],
     g: &mut [u16],
     ring: &mut [u16; 1024],
     flag: &mut [u8; 1024],
@@ -238,7 +246,7 @@ pub fn takes(
     l: Line,
     limit: usize,
 ) -> End
-    requires { ⌜ HalfRows (now rows) × Held n (now g) × Waits n (now ring) (now flag) l ⌝ }
+    requires { ⌜ Fair n (now g) × Waits n (now ring) (now flag) l ⌝ }
     ensures end { λ r. ⌜ ended r (now (g .exit)) ≡ run allen n limit 0 (now (g .entry)) (waitingIn (now (ring .entry)) l) ⌝ }
     ensures idle { λ r. ⌜ Idle n (now (ring .exit)) (now (flag .exit)) ⌝ }
 {
@@ -253,7 +261,7 @@ pub fn takes(
         let p = first.pair;
         let rest = first.rest;
         t += 1;
-        let one = take_pair(rows, g, ring, flag, n, rest, p / 32, p % 32);
+        let one = take_pair(g, ring, flag, n, rest, p / 32, p % 32);
         let Cut::Going(m) = one else {
             clear_flags(flag);
             return End::Contradiction(t);

@@ -1,14 +1,17 @@
 -- A take, cut by cut: what is left of it, done from here, is the whole. Assumes nothing.
-use mathlib.Core.Path.{_≡_, refl, ap, sym, _∙_}
-use mathlib.Core.List.{List}
+use mathlib.Core.Path.{_≡_, refl, ap, sym, _∙_, subst}
+use mathlib.Core.List.{List, []}
 use Prim.Native.Nat.{ℕ, zero, suc, _+_, _-_, _*_, _/_, _%_, _<_}
 use native.Mathlib.Omega.{arith}
 use native.Mathlib.Decide.{ℕ-discrete}
 use borrow.Author.Tests.{eq-eqb, ne-eqb}
-use Rattle.grid.specs.Cells.{cell}
+use Rattle.grid.specs.Cells.{cell, putBoth}
 use Rattle.theory.specs.Calculus.{Calculus}
 use Rattle.theory.specs.Quick.{cutTo, Out, dead, going, andThen, cut, cutBack, turn, turns}
 use Rattle.theory.specs.Cuts.{fromOf, viaOf, toOf, cutAt, cuts, cutsFrom}
+use Rattle.theory.proofs.Lawful.{Lawful}
+use Rattle.theory.proofs.ClosingLaws.{mirror-cut, mirror-back}
+use Rattle.theory.proofs.KeepLaws.{Good, Came, same, emptied, shrank, came, is-cut, good-shrank}
 use Rattle.theory.proofs.QuickLaws.{cut-still, turn-is, turn-skip-i, turn-skip-j}
 
 -- the first cut at k, and the second
@@ -135,3 +138,71 @@ module _ (A : Calculus) (n i j c : ℕ) (g q : List ℕ) (h : c < n * 2) where
 
   pub cuts-going : (g' q' : List ℕ) → cutAt A n i j c g q ≡ going g' q' → cutsFrom A n i j c g q ≡ cutsFrom A n i j (c + 1) g' q'
   cuts-going g' q' e = cuts-step ∙ ap (λ (o : Out). andThen o (cutsFrom A n i j (c + 1))) e
+
+-- ---- what a cut in the take of (i, j) keeps: what every cut keeps, and the pair itself
+
+pub record Keeps (A : Calculus) (n i j : ℕ) (g₀ g g' : List ℕ) : Type 0 where
+  pub good : Good A n g₀ g'
+  pub pair : cell n g' i j ≡ cell n g i j
+  pub mirror : cell n g' j i ≡ cell n g j i
+
+abbrev gridOf : Out → List ℕ
+gridOf dead = []
+gridOf (going g q) = g
+
+abbrev tag : Out → ℕ
+tag dead = 0
+tag (going g q) = 1
+
+module _ (A : Calculus) (L : Lawful A) (n i j : ℕ) (hi : i < n) (hj : j < n) (ne : i ≡ j → ⊥) (g₀ g : List ℕ) (G : Good A n g₀ g) where
+  keeps-same : (g' : List ℕ) → g ≡ g' → Keeps A n i j g₀ g g'
+  keeps-same g' e = subst (Keeps A n i j g₀ g) e (record { good = G; pair = refl; mirror = refl })
+
+  -- a cut of another cell
+  keeps-cut : (a m b : ℕ) → a < n → m < n → b < n → (a ≡ b → ⊥) → ((i ≡ a) × (j ≡ b) → ⊥) → ((i ≡ b) × (j ≡ a) → ⊥) → (q g' q' : List ℕ) → cut A n a m b g q ≡ going g' q' → Keeps A n i j g₀ g g'
+  keeps-cut a m b ha hm hb apart p r q g' q' e = go (cut A n a m b g q) (came A n a m b g q) e
+    where
+      go : (o : Out) → Came A n a m b g q o → o ≡ going g' q' → Keeps A n i j g₀ g g'
+      go _ (same s) f = keeps-same g' (ap gridOf f)
+      go _ (emptied z) f = absurd (let y : _≡_ {A = ℕ} 0 1 = ap tag f in omega arith)
+      go _ (shrank less some) f =
+          let c = is-cut A L n g₀ g G a m b ha hm hb apart in
+          subst (Keeps A n i j g₀ g) (ap gridOf f)
+          (record {
+            good = good-shrank A L n g₀ g G a m b ha hm hb apart some;
+            pair = c .rest i j hi hj p r;
+            mirror = c .rest j i hj hi (λ w. r (w .1, w .0)) (λ w. p (w .1, w .0));
+          })
+
+  pub keeps-at : (c : ℕ) → c < n * 2 → (q g' q' : List ℕ) → cutAt A n i j c g q ≡ going g' q' → Keeps A n i j g₀ g g'
+  keeps-at c hc q g' q' e = go (ℕ-discrete (c / 2) i) (ℕ-discrete (c / 2) j)
+    where
+      go : Dec (c / 2 ≡ i) → Dec (c / 2 ≡ j) → Keeps A n i j g₀ g g'
+      go (yes u) v = keeps-same g' (ap gridOf (sym (cut-skip-i A n i j c g q u) ∙ e))
+      go (no u) (yes v) = keeps-same g' (ap gridOf (sym (cut-skip-j A n i j c g q u v) ∙ e))
+      go (no u) (no v) = made (ℕ-discrete (c % 2) 0)
+        where
+          made : Dec (c % 2 ≡ 0) → Keeps A n i j g₀ g g'
+          made (yes z) =
+              keeps-cut i j (c / 2) hi hj (omega arith) (λ x. u (sym x)) (λ w. v (sym (w .1))) (λ w. u (sym (w .0))) q g' q'
+              (sym (cut-made A n i j c g q u v ∙ rw (eq-eqb (c % 2) 0 z) refl) ∙ e)
+          made (no z) =
+              keeps-cut (c / 2) i j (omega arith) hi hj v (λ w. u (sym (w .0))) (λ w. ne (w .0)) q g' q'
+              (sym (cut-made A n i j c g q u v ∙ rw (ne-eqb (c % 2) 0 z) refl) ∙ e)
+
+-- ---- the first cut at k, seen from k
+
+-- (i, k) is cut to the converse of what (k, j) with (j, i) leaves of (k, i)
+module _ (A : Calculus) (L : Lawful A) (n i j k : ℕ) (hi : i < n) (hj : j < n) (hk : k < n) (g₀ g : List ℕ) (G : Good A n g₀ g) (ki : k ≡ i → ⊥) where
+  pub turned-cut : A .conv (cutTo A (cell n g) k j i) ≡ cutTo A (cell n g) i j k
+  turned-cut = mirror-cut A L n (cell n g) (cell n (putBoth (A .conv) n g k i (cutTo A (cell n g) k j i))) k j i hk hj hi (G .reached .mirrored) (is-cut A L n g₀ g G k j i hk hj hi ki)
+
+  pub turned-back : A .conv (cutTo A (cell n g) i j k) ≡ cutTo A (cell n g) k j i
+  turned-back = ap (A .conv) (sym turned-cut) ∙ mirror-back A L n (cell n g) (cell n (putBoth (A .conv) n g k i (cutTo A (cell n g) k j i))) k j i hk hj hi (G .reached .mirrored) (is-cut A L n g₀ g G k j i hk hj hi ki)
+
+  -- so the one leaves its cell as it is just where the other does
+  pub turned-still : cutTo A (cell n g) k j i ≡ cell n g k i → cutTo A (cell n g) i j k ≡ cell n g i k
+  turned-still e = sym turned-cut ∙ ap (A .conv) e ∙ sym (G .reached .mirrored k i hk hi)
+
+  pub turned-less : (cutTo A (cell n g) k j i ≡ cell n g k i → ⊥) → cutTo A (cell n g) i j k ≡ cell n g i k → ⊥
+  turned-less ne e = ne (sym turned-back ∙ ap (A .conv) e ∙ sym (G .reached .mirrored i k hi hk))

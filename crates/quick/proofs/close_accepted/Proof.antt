@@ -3,6 +3,7 @@ use mathlib.Core.Path.{sym, _∙_, ap}
 use Prim.Native.Nat.{ℕ}
 use lib.ListN.{replicate}
 use Rattle.takes.proofs.WaitingLaws.{empty-line}
+use Rattle.takes.proofs.StepsLaws.{fair-start}
 use Rattle.quick.proofs.RuleLaws.{rule-empty}
 use Rattle.quick.proofs.ShowLaws.{rule-ran, shows-contradiction, shows-closed, shows-paused}
 use borrow.Author.Needs.{needs}
@@ -21,13 +22,15 @@ same-length c = search needs
 returns : tie.Need-returns
 returns c =
     shows-contradiction _ _ _ _ (rule-empty _ _ _ (sym (c .before .before .before .before .before .some-empty .ensures) ∙ c .before .before .before .before .if1 .taken))
-    (c .before .before .clear .ensures ∙ ap (λ (k : ℕ). replicate k 0) (c .before .before .before .before .before .before .before .before .pre .1 .long))
+    (c .before .before .clear .ensures ∙ ap (λ (k : ℕ). replicate k 0) (c .before .before .before .before .before .before .before .before .pre .long))
 
 all-waiting-requires : tie.Need-all-waiting-requires
-all-waiting-requires c κs = (c .before .before .before .before .before .before .pre .1 .few, empty-line _)
+all-waiting-requires c κs = (c .before .before .before .before .before .before .pre .few, empty-line _)
 
 takes-requires : tie.Need-takes-requires
-takes-requires c κs = search needs
+takes-requires c κs =
+    let I = c .before .before .before .before .before .before in
+    (fair-start _ _ (I .before .before .before .before .pre) (sym (I .before .some-empty .ensures) ∙ I .if1 .left), c .before .before .before .all-waiting .ensures .0)
 
 enum-known-end : tie.Need-enum-known-end
 enum-known-end c = search needs
@@ -54,7 +57,7 @@ returns-2 c =
     let end = c .before .before .before .before .before .end in
     let clear2 = c .before .before .clear2 in
     shows-contradiction _ _ _ _ (rule-ran _ _ _ _ (some-empty .ensures) (if1 .left) _ (all-waiting .ensures .1) _ _ _ (takes .ensures .0) (end .given .1))
-    (clear2 .ensures ∙ ap (λ (k : ℕ). replicate k 0) (takes .kept .1 .0 ∙ s .pre .1 .long))
+    (clear2 .ensures ∙ ap (λ (k : ℕ). replicate k 0) (takes .kept .0 ∙ s .pre .long))
 
 same-length-3 : tie.Need-same-length-3
 same-length-3 c = search needs

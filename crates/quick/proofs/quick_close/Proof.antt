@@ -16,13 +16,10 @@ enum-known-judged c = search needs
 enum-told : tie.Need-enum-told
 enum-told c = search needs
 
-fill-half-rows-requires : tie.Need-fill-half-rows-requires
-fill-half-rows-requires c κs = search needs
-
 close-accepted-requires : tie.Need-close-accepted-requires
 close-accepted-requires c κs =
-    let e = c .before .before .before .before in
-    (search needs, accepted-grid _ _ (sym (e .before .before .judge .ensures) ∙ ap judgedNumber (e .enum-told .given .1)))
+    let e = c .before in
+    accepted-grid _ _ (sym (e .before .before .judge .ensures) ∙ ap judgedNumber (e .enum-told .given .1))
 
 same-length : tie.Need-same-length
 same-length c = search needs
@@ -35,7 +32,7 @@ same-length-2 c = search needs
 
 returns-2 : tie.Need-returns-2
 returns-2 c =
-    let e = c .before .before .before .before .before .before .before in
+    let e = c .before .before .before .before in
     let z = sym (e .before .before .judge .ensures) ∙ ap judgedNumber (e .enum-told .given .1) in
     closes _ _ _ _ _ z (accepted-grid _ _ z) (c .before .before .close-accepted .ensures)
 
@@ -46,7 +43,6 @@ quick-close-spec =
     judge-requires
     enum-known-judged
     enum-told
-    fill-half-rows-requires
     close-accepted-requires
     same-length
     returns

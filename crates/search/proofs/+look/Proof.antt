@@ -11,7 +11,7 @@ use Rattle.takes.specs.Waiting.{Idle}
 use Rattle.search.specs.Rule.{thereAt, tryAt, searchAt}
 use Rattle.search.specs.Steps.{after}
 use Rattle.search.proofs.RuleLaws.{from, from-end, from-spent, from-past, after-next, square}
-use Rattle.search.proofs.LookLaws.{there-is, next-searched, look-start, look-end, turn-emptied, turn-none, turn-kept, shows-gave-up, shows-none, shows-passed, shows-next, step-at, tries-left, stands-in}
+use Rattle.search.proofs.LookLaws.{there-is, searched-fair, next-searched, look-start, look-end, turn-emptied, turn-none, turn-kept, shows-gave-up, shows-none, shows-passed, shows-next, step-at, tries-left, stands-in}
 use borrow.Fn.Kinds.{In}
 use borrow.Fn.PlainCycle.{Measures, is, falls, and}
 use Rattle.search.proofs.look.Reads as look
@@ -28,14 +28,14 @@ use Rattle.search.proofs.+look.{statement}
 use Rattle.search.proofs.+look.Tie.{close}
 
 -- the cells left at the stand
-abbrev μ-look : Measures 5 look-kinds.ps ℕ
-μ-look κs a = a .1 .1 .1 .1 .0 .left
+abbrev μ-look : Measures 4 look-kinds.ps ℕ
+μ-look κs a = a .1 .1 .1 .0 .left
 
-abbrev look-at : ℕ → In 5 look-kinds.ps
-look-at t = and 5 look-kinds.ps (is 5 look-kinds.ps μ-look t) look.Pre
+abbrev look-at : ℕ → In 4 look-kinds.ps
+look-at t = and 4 look-kinds.ps (is 4 look-kinds.ps μ-look t) look.Pre
 
-abbrev look-below : ℕ → In 5 look-kinds.ps
-look-below t = and 5 look-kinds.ps (falls 5 look-kinds.ps _<_ μ-look t) look.Pre
+abbrev look-below : ℕ → In 4 look-kinds.ps
+look-below t = and 4 look-kinds.ps (falls 4 look-kinds.ps _<_ μ-look t) look.Pre
 
 -- what each callee asks and tells
 abbrev claims : ℕ → look-lts.Claims
@@ -59,22 +59,22 @@ claims t = (
 )
 
 abbrev look-Inv-loop : look-lts.InvT-loop
-look-Inv-loop rows ring₀ flag₀ n g allowance room₀ at cells work₀ used₀ r₀ ring flag room work used r =
+look-Inv-loop ring₀ flag₀ n g allowance room₀ at cells work₀ used₀ r₀ ring flag room work used r =
     (r ≤ 13) × (used ≤ allowance) × (room ≡ room₀)
     × (from (thereAt n) (tryAt n) allowance (searchAt n allowance (pairsFrom n (after n (at .i) (at .j) .0) (after n (at .i) (at .j) .1))) (at .i, at .j) g r used
     ≡ searchAt n allowance (pairsFrom n (at .i) (at .j)) g (at .tries))
     × Idle n ring flag × (length work ≡ 1024)
 
 abbrev look-μ-loop : look-lts.MeasureT-loop
-look-μ-loop rows ring₀ flag₀ n g allowance room₀ at cells work₀ used₀ r₀ ring flag room work used r = 13 - r
+look-μ-loop ring₀ flag₀ n g allowance room₀ at cells work₀ used₀ r₀ ring flag room work used r = 13 - r
 
 look-pass-decided-requires : (t : ℕ) → look-lts.Need-pass-decided-requires (claims t) (look-at t) look.Post look-Inv-loop look-μ-loop
-look-pass-decided-requires t c κs = let s = c .before .pre .1 in (s .2, s .3)
+look-pass-decided-requires t c κs = let s = c .before .pre .1 in (s .1, s .2)
 
 look-settled-requires : (t : ℕ) → look-lts.Need-settled-requires (claims t) (look-at t) look.Post look-Inv-loop look-μ-loop
 look-settled-requires t c κs =
     let s = c .before .before .before .before .before .pre .1 in
-    (s .2 .at .few, s .3 .accepted .long, s .4)
+    (s .1 .at .few, s .2 .accepted .long, s .3)
 
 look-same-length : (t : ℕ) → look-lts.Need-same-length (claims t) (look-at t) look.Post look-Inv-loop look-μ-loop
 look-same-length t c = search needs
@@ -84,24 +84,24 @@ look-returns t c =
     let I = c .before .before .before in
     let P = I .before .before .pass-decided .ensures in (
       shows-passed _ _ _ _ _ _ _ _ P (look-end _ _ _ _ _ _ _ _ (P .stands .at .count ∙ I .if1 .taken) (P .stands .within) (c .before .settled .ensures)),
-      I .before .before .before .before .pre .1 .1,
+      I .before .before .before .before .pre .1 .0,
     )
 
 look-mul-cells : (t : ℕ) → look-lts.Need-mul-cells (claims t) (look-at t) look.Post look-Inv-loop look-μ-loop
-look-mul-cells t c = omega (arith, square _ (c .before .before .before .before .pre .1 .2 .at .few) .1)
+look-mul-cells t c = omega (arith, square _ (c .before .before .before .before .pre .1 .1 .at .few) .1)
 
 look-loop-holds : (t : ℕ) → look-lts.Need-loop-holds (claims t) (look-at t) look.Post look-Inv-loop look-μ-loop
 look-loop-holds t c =
     let P = c .before .before .pass-decided .ensures .stands in
     let w = stands-in _ _ _ P (omega (arith, c .if1 .left)) in
-    (search needs, P .within, refl, look-start _ _ _ _ _ _ _ (after-next _ _ _ (P .at .upper) (w .1) .pairs), c .before .before .before .before .pre .1 .1, search needs)
+    (search needs, P .within, refl, look-start _ _ _ _ _ _ _ (after-next _ _ _ (P .at .upper) (w .1) .pairs), c .before .before .before .before .pre .1 .0, search needs)
 
 look-get-requires : (t : ℕ) → look-lts.Need-get-requires (claims t) (look-at t) look.Post look-Inv-loop look-μ-loop
 look-get-requires t c κs =
     let I = c .before .before in
     let s = I .before .before .before .before .pre .1 in
     let w = stands-in _ _ _ (I .before .before .pass-decided .ensures .stands) (omega (arith, I .if1 .left)) in
-    (s .2 .at .few, w .0, w .1, omega (arith, s .3 .accepted .long))
+    (s .1 .at .few, w .0, w .1, omega (arith, s .2 .accepted .long))
 
 look-has-requires : (t : ℕ) → look-lts.Need-has-requires (claims t) (look-at t) look.Post look-Inv-loop look-μ-loop
 look-has-requires t c κs = search needs
@@ -135,7 +135,7 @@ look-attempt-in-requires t c κs =
     let I = L .before in
     let s = I .before .before .before .before .pre .1 in
     let w = stands-in _ _ _ (I .before .before .pass-decided .ensures .stands) (omega (arith, I .if1 .left)) in
-    (s .0, L .loop .inv .4, s .3 .accepted .long, record { few = s .2 .at .few; fits = omega (arith, L .loop .inv .5, square _ (s .2 .at .few) .1) }, w .0, w .1, w .2, c .before .before .before .before .before .before .before .loop-test .taken)
+    (L .loop .inv .4, s .2 .accepted .long, searched-fair _ _ (s .2), record { few = s .1 .at .few; fits = omega (arith, L .loop .inv .5, square _ (s .1 .at .few) .1) }, w .0, w .1, w .2, c .before .before .before .before .before .before .before .loop-test .taken)
 
 look-enum-known-answer : (t : ℕ) → look-lts.Need-enum-known-answer (claims t) (look-at t) look.Post look-Inv-loop look-μ-loop
 look-enum-known-answer t c = search needs
@@ -157,9 +157,9 @@ look-loop-again t c =
       search needs,
       omega (arith, tries-left _ _ (v .1) (c .before .before .before .before .before .before .if3 .left)),
       v .2,
-      sym (turn-emptied _ _ _ _ _ (take (n * n) (tried .last .1 .1 .1 .1 .0)) _ _ (tried .result) (U .before .before .before .loop-test .taken) there (c .before .before .before .before .before .before .if3 .left) (tried .ensures .0) (c .match .keys2)) ∙ v .3,
+      sym (turn-emptied _ _ _ _ _ (take (n * n) (tried .last .1 .1 .1 .0)) _ _ (tried .result) (U .before .before .before .loop-test .taken) there (c .before .before .before .before .before .before .if3 .left) (tried .ensures .0) (c .match .keys2)) ∙ v .3,
       tried .ensures .1,
-      tried .kept .1 .1 .1 .1 .0 ∙ v .5,
+      tried .kept .1 .1 .1 .0 ∙ v .5,
     )
 
 look-step-requires : (t : ℕ) → look-lts.Need-step-requires (claims t) (look-at t) look.Post look-Inv-loop look-μ-loop
@@ -172,12 +172,12 @@ look-step-requires t c κs =
 look-array-share-prefix-work : (t : ℕ) → look-lts.Need-array-share-prefix-work (claims t) (look-at t) look.Post look-Inv-loop look-μ-loop
 look-array-share-prefix-work t c =
     let L = c .before .before .before .before .before .before .before .before .before .before .before .before .before .before .before .before in
-    omega (arith, c .before .before .before .before .before .before .before .attempt-in .kept .1 .1 .1 .1 .0, L .loop .inv .5, square _ (L .before .before .before .before .before .pre .1 .2 .at .few) .1)
+    omega (arith, c .before .before .before .before .before .before .before .attempt-in .kept .1 .1 .1 .0, L .loop .inv .5, square _ (L .before .before .before .before .before .pre .1 .1 .at .few) .1)
 
 look-slice-aggregate-look : (t : ℕ) → look-lts.Need-slice-aggregate-look (claims t) (look-at t) look.Post look-Inv-loop look-μ-loop
 look-slice-aggregate-look t c =
     let L = c .before .before .before .before .before .before .before .before .before .before .before .before .before .before .before .before .before in
-    sym (length-take-le _ _ (omega (arith, c .before .before .before .before .before .before .before .before .attempt-in .kept .1 .1 .1 .1 .0, L .loop .inv .5, square _ (L .before .before .before .before .before .pre .1 .2 .at .few) .1)))
+    sym (length-take-le _ _ (omega (arith, c .before .before .before .before .before .before .before .before .attempt-in .kept .1 .1 .1 .0, L .loop .inv .5, square _ (L .before .before .before .before .before .pre .1 .1 .at .few) .1)))
 
 look-look-requires : (t : ℕ) → look-lts.Need-look-requires (claims t) (look-at t) look.Post look-Inv-loop look-μ-loop
 look-look-requires t c κs =
@@ -192,14 +192,13 @@ look-look-requires t c κs =
     let some = L .before .if1 .left in
     let w = stands-in _ _ _ (P .stands) (omega (arith, some)) in
     let there = there-is _ _ _ _ _ _ _ _ (U .before .before .get .ensures) (U .before .has .ensures) (U .if2 .taken) in
-    let long = length-take-le (n * n) (tried .last .1 .1 .1 .1 .0) (omega (arith, tried .kept .1 .1 .1 .1 .0, v .5, square _ (s .pre .1 .2 .at .few) .1)) in (
+    let long = length-take-le (n * n) (tried .last .1 .1 .1 .0) (omega (arith, tried .kept .1 .1 .1 .0, v .5, square _ (s .pre .1 .1 .at .few) .1)) in (
       omega (arith, s .pre .0, some, P .fewer, stepped .left),
       (
-        s .pre .1 .0,
         tried .ensures .1,
         record { at = step-at _ _ _ _ stepped (P .stands .at) (w .1); within = omega (arith, stepped .tries, tries-left _ _ (v .1) (c .before .before .before .before .before .before .before .before .before .before .before .before .before .if3 .left)) },
-        next-searched _ _ _ _ _ _ _ _ (P .stands .at .upper) (w .1) (U .before .before .before .loop-test .taken) there (s .pre .1 .3) (tried .ensures .0) (c .before .before .before .before .before .before .answer .given .1) long,
-        ap length (v .2) ∙ s .pre .1 .4,
+        next-searched _ _ _ _ _ _ _ _ (P .stands .at .upper) (w .1) (U .before .before .before .loop-test .taken) there (s .pre .1 .2) (tried .ensures .0) (c .before .before .before .before .before .before .answer .given .1) long,
+        ap length (v .2) ∙ s .pre .1 .3,
       ),
     )
 
@@ -207,7 +206,7 @@ look-enum-told : (t : ℕ) → look-lts.Need-enum-told (claims t) (look-at t) lo
 look-enum-told t c = search needs
 
 look-same-length-3 : (t : ℕ) → look-lts.Need-same-length-3 (claims t) (look-at t) look.Post look-Inv-loop look-μ-loop
-look-same-length-3 t c = c .before .before .look .kept .1 .1 .1 .1 .1 .1 .1 .0 ∙ ap length (c .before .before .before .before .before .before .before .before .before .before .before .before .before .before .before .before .before .before .before .before .before .loop .inv .2)
+look-same-length-3 t c = c .before .before .look .kept .1 .1 .1 .1 .1 .1 .0 ∙ ap length (c .before .before .before .before .before .before .before .before .before .before .before .before .before .before .before .before .before .before .before .before .before .loop .inv .2)
 
 look-returns-3 : (t : ℕ) → look-lts.Need-returns-3 (claims t) (look-at t) look.Post look-Inv-loop look-μ-loop
 look-returns-3 t c =
@@ -242,7 +241,7 @@ look-loop-again-2 t c =
       w .21 ∙ turn .1 ∙ v .2,
       sym (turn .0) ∙ v .3,
       rw (w .19, w .20) (w .15 .ensures .1),
-      ap length (w .22) ∙ w .5 .kept .1 .1 .1 .1 .0 ∙ v .5,
+      ap length (w .22) ∙ w .5 .kept .1 .1 .1 .0 ∙ v .5,
     ))
     (λ w. (
       search needs,

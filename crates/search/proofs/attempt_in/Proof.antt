@@ -1,11 +1,11 @@
 -- The copy is the grid, and the try is made on it in place.
-use mathlib.Core.Path.{_≡_, sym, ap, _∙_}
+use mathlib.Core.Path.{_≡_, sym, ap, _∙_, subst}
 use mathlib.Core.List.{List}
 use Prim.Native.Nat.{ℕ, _*_, _≤_}
 use lib.ListN.{length, take}
 use lib.Seq.{length-take-le, take-at}
 use Rattle.grid.proofs.CellLaws.{copied-front}
-use Rattle.takes.specs.Steps.{ended}
+use Rattle.takes.specs.Steps.{Fair, ended}
 use Rattle.search.specs.Rule.{triedBy, tryAt}
 use native.Mathlib.Omega.{arith}
 use borrow.Author.Needs.{needs}
@@ -30,9 +30,9 @@ attempt-requires : tie.Need-attempt-requires
 attempt-requires c κs =
     let C = c .before .before .before .before .before in
     let s = C .before .before .before .before in
-    let n = s .args .n in
-    let long = length-take-le (n * n) (C .copy .last .0) (omega (arith, C .copy .kept .0, s .pre .3 .fits)) in
-    (s .pre .0, s .pre .1, record { few = s .pre .3 .few; fits = omega (arith, long) }, s .pre .4, s .pre .5, s .pre .6, s .pre .7)
+    let m = s .args .n * s .args .n in
+    let same : take m (C .copy .last .0) ≡ s .args .g .now = ap (take m) (C .copy .ensures) ∙ copied-front (s .args .g .now) (s .args .cut .now) m (s .pre .1) in
+    (s .pre .0, subst (Fair (s .args .n)) (sym same) (s .pre .2), s .pre .4, s .pre .5, s .pre .6, s .pre .7)
 
 same-length : tie.Need-same-length
 same-length c = search needs
@@ -46,8 +46,8 @@ returns c =
     let m = s .args .n * s .args .n in
     let g = s .args .g .now in
     let fits : m ≤ length (copied .last .0) = omega (arith, copied .kept .0, s .pre .3 .fits) in
-    let same : take m (copied .last .0) ≡ g = ap (take m) (copied .ensures) ∙ copied-front g (s .args .cut .now) m (s .pre .2) in (
-      ap (λ (l : List ℕ). triedBy (ended (tried .result) l)) (take-at _ _ _ (tried .kept .1 .1 .1 .0 ∙ length-take-le m (copied .last .0) fits))
+    let same : take m (copied .last .0) ≡ g = ap (take m) (copied .ensures) ∙ copied-front g (s .args .cut .now) m (s .pre .1) in (
+      ap (λ (l : List ℕ). triedBy (ended (tried .result) l)) (take-at _ _ _ (tried .kept .1 .1 .0 ∙ length-take-le m (copied .last .0) fits))
           ∙ tried .ensures .0 ∙ ap (tryAt (s .args .n) (s .args .i, s .args .j) (s .args .r)) same,
       tried .ensures .1,
     )

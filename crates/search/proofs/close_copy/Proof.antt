@@ -1,5 +1,5 @@
 -- The copy is the given grid, and it is closed in place.
-use mathlib.Core.Path.{_≡_, sym, ap, _∙_}
+use mathlib.Core.Path.{_≡_, sym, ap, _∙_, subst}
 use mathlib.Core.List.{List}
 use Prim.Native.Nat.{ℕ, _*_, _≤_}
 use lib.ListN.{length, take}
@@ -8,7 +8,7 @@ use Rattle.grid.proofs.CellLaws.{copied-front}
 use Rattle.theory.specs.Allen.{allen}
 use Rattle.theory.specs.Line.{allPairs}
 use Rattle.theory.specs.Quick.{run}
-use Rattle.takes.specs.Steps.{ended}
+use Rattle.takes.specs.Steps.{Fair, ended}
 use Rattle.search.specs.Rule.{enough, triedBy}
 use native.Mathlib.Omega.{arith}
 use borrow.Author.Needs.{needs}
@@ -33,26 +33,26 @@ close-all-requires : tie.Need-close-all-requires
 close-all-requires c κs =
     let C = c .before .before .before .before .before in
     let s = C .before .before .before .before in
-    let n = s .args .n in
-    let long = length-take-le (n * n) (C .copy .last .0) (omega (arith, C .copy .kept .0, s .pre .3 .fits)) in
-    (s .pre .0, s .pre .1, record { few = s .pre .3 .few; fits = omega (arith, long) })
+    let m = s .args .n * s .args .n in
+    let same : take m (C .copy .last .0) ≡ s .args .g .now = ap (take m) (C .copy .ensures) ∙ copied-front (s .args .g .now) (s .args .work .now) m (s .pre .1) in
+    (s .pre .0, subst (Fair (s .args .n)) (sym same) (s .pre .2))
 
 same-length : tie.Need-same-length
 same-length c = search needs
 
 returns : tie.Need-returns
 returns c =
-    let closing = c .before .before .close-all in
+    let tried = c .before .before .close-all in
     let C = c .before .before .before .before .before .before .before .before in
     let copied = C .copy in
     let s = C .before .before .before .before in
     let m = s .args .n * s .args .n in
     let g = s .args .g .now in
     let fits : m ≤ length (copied .last .0) = omega (arith, copied .kept .0, s .pre .3 .fits) in
-    let same : take m (copied .last .0) ≡ g = ap (take m) (copied .ensures) ∙ copied-front g (s .args .work .now) m (s .pre .2 .long) in (
-      ap (λ (l : List ℕ). triedBy (ended (closing .result) l)) (take-at _ _ _ (closing .kept .1 .1 .1 .0 ∙ length-take-le m (copied .last .0) fits))
-          ∙ ap triedBy (closing .ensures .0 ∙ ap (λ (x : List ℕ). run allen (s .args .n) enough 0 x (allPairs (s .args .n))) same),
-      closing .ensures .1,
+    let same : take m (copied .last .0) ≡ g = ap (take m) (copied .ensures) ∙ copied-front g (s .args .work .now) m (s .pre .1) in (
+      ap (λ (l : List ℕ). triedBy (ended (tried .result) l)) (take-at _ _ _ (tried .kept .1 .1 .0 ∙ length-take-le m (copied .last .0) fits))
+          ∙ ap triedBy (tried .ensures .0 ∙ ap (λ (x : List ℕ). run allen (s .args .n) enough 0 x (allPairs (s .args .n))) same),
+      tried .ensures .1,
     )
 
 pub close-copy-spec : {M : Type 1} → statement M

@@ -4,6 +4,7 @@ use Prim.Native.Nat.{_*_}
 use lib.ListN.{take}
 use lib.Seq.{length-take-le}
 use Rattle.takes.proofs.WaitingLaws.{empty-line}
+use Rattle.takes.proofs.StepsLaws.{fair-start}
 use Rattle.search.specs.Rule.{fromClosed}
 use Rattle.search.proofs.RuleLaws.{square, at-first}
 use Rattle.search.proofs.LookLaws.{no-grid, a-grid}
@@ -19,16 +20,14 @@ some-empty-requires c κs = search needs
 returns : tie.Need-returns
 returns c = answers-none _ _ _ (search-empty _ _ _ (sym (c .before .some-empty .ensures) ∙ c .if1 .taken))
 
-fill-half-rows-requires : tie.Need-fill-half-rows-requires
-fill-half-rows-requires c κs = search needs
-
 slice-aggregate-close-copy : tie.Need-slice-aggregate-close-copy
 slice-aggregate-close-copy c = search needs
 
 close-copy-requires : tie.Need-close-copy-requires
 close-copy-requires c κs =
-    let s = c .before .before .before .before .before .before .before .before .before .pre in
-    (search needs, empty-line _, s .0, record { few = s .0 .few; fits = square _ (s .0 .few) .1 })
+    let I = c .before .before .before in
+    let s = I .before .before .before .pre in
+    (empty-line _, s .0 .long, fair-start _ _ (s .0) (sym (I .before .some-empty .ensures) ∙ I .if1 .left), record { few = s .0 .few; fits = square _ (s .0 .few) .1 })
 
 enum-known-first : tie.Need-enum-known-first
 enum-known-first c = search needs
@@ -36,36 +35,35 @@ enum-known-first c = search needs
 returns-2 : tie.Need-returns-2
 returns-2 c =
     let closing = c .before .before in
-    let test = closing .before .before .before .before .before .before .before in
+    let test = closing .before .before .before .before in
     let s = test .before .before .before .args in
     answers-none _ _ _
     (search-from _ _ _ (sym (test .before .some-empty .ensures) ∙ test .if1 .left) _ (closing .close-copy .ensures .0)
-    ∙ ap (fromClosed _ _) (no-grid (closing .close-copy .result) (take (s .n * s .n) (closing .close-copy .last .1 .1 .1 .1 .0)) (c .match .keys2)))
+    ∙ ap (fromClosed _ _) (no-grid (closing .close-copy .result) (take (s .n * s .n) (closing .close-copy .last .1 .1 .1 .0)) (c .match .keys2)))
 
 mul-cells : tie.Need-mul-cells
 mul-cells c = search needs
 
-sub-t22 : tie.Need-sub-t22
-sub-t22 c = square _ (c .before .before .before .before .before .before .before .before .before .before .before .before .before .before .pre .0 .few) .0
+sub-t18 : tie.Need-sub-t18
+sub-t18 c = square _ (c .before .before .before .before .before .before .before .before .before .before .before .pre .0 .few) .0
 
 array-share-prefix-work : tie.Need-array-share-prefix-work
-array-share-prefix-work c = omega (arith, c .before .before .before .before .before .before .before .close-copy .kept .1 .1 .1 .1 .0, square _ (c .before .before .before .before .before .before .before .before .before .before .before .before .before .before .before .before .before .pre .0 .few) .1)
+array-share-prefix-work c = omega (arith, c .before .before .before .before .before .before .close-copy .kept .1 .1 .1 .0, square _ (c .before .before .before .before .before .before .before .before .before .before .before .before .before .pre .0 .few) .1)
 
 slice-aggregate-look : tie.Need-slice-aggregate-look
-slice-aggregate-look c = sym (length-take-le _ _ (omega (arith, c .before .before .before .before .before .before .before .before .close-copy .kept .1 .1 .1 .1 .0, square _ (c .before .before .before .before .before .before .before .before .before .before .before .before .before .before .before .before .before .before .pre .0 .few) .1)))
+slice-aggregate-look c = sym (length-take-le _ _ (omega (arith, c .before .before .before .before .before .before .before .close-copy .kept .1 .1 .1 .0, square _ (c .before .before .before .before .before .before .before .before .before .before .before .before .before .before .pre .0 .few) .1)))
 
 look-requires : tie.Need-look-requires
 look-requires c κs =
-    let closing = c .before .before .before .before .before .before .before .before .before in
-    let test = closing .before .before .before .before .before .before .before in
+    let closing = c .before .before .before .before .before .before .before .before in
+    let test = closing .before .before .before .before in
     let s = test .before .before .before in
     let n = s .args .n in
-    let h = closing .close-copy .last .1 .1 .1 .1 .0 in
-    let long = length-take-le (n * n) h (omega (arith, closing .close-copy .kept .1 .1 .1 .1 .0, square _ (s .pre .0 .few) .1)) in (
-      search needs,
+    let h = closing .close-copy .last .1 .1 .1 .0 in
+    let long = length-take-le (n * n) h (omega (arith, closing .close-copy .kept .1 .1 .1 .0, square _ (s .pre .0 .few) .1)) in (
       closing .close-copy .ensures .1,
       record { at = at-first _ (s .pre .0 .few); within = omega arith },
-      first-searched _ _ (s .pre .0) (sym (test .before .some-empty .ensures) ∙ test .if1 .left) (closing .close-copy .result) _ (take (n * n) h) (closing .close-copy .ensures .0) (c .before .before .before .before .before .before .first .given .1) long,
+      first-searched _ _ (s .pre .0) (sym (test .before .some-empty .ensures) ∙ test .if1 .left) (closing .close-copy .result) _ (take (n * n) h) (closing .close-copy .ensures .0) (c .before .before .before .before .before .first .given .1) long,
       s .pre .1,
     )
 
@@ -77,13 +75,13 @@ same-length c = search needs
 
 returns-3 : tie.Need-returns-3
 returns-3 c =
-    let known = c .before .before .before .before .before .before .before .before .before in
-    let closing = c .before .before .before .before .before .before .before .before .before .before .before .before in
-    let test = closing .before .before .before .before .before .before .before in
+    let known = c .before .before .before .before .before .before .before .before in
+    let closing = c .before .before .before .before .before .before .before .before .before .before .before in
+    let test = closing .before .before .before .before in
     let s = test .before .before .before .args in
     answers-shown _ _ _ _ _ _ _ _
     (search-from _ _ _ (sym (test .before .some-empty .ensures) ∙ test .if1 .left) _ (closing .close-copy .ensures .0)
-    ∙ ap (fromClosed _ _) (a-grid (closing .close-copy .result) _ (take (s .n * s .n) (closing .close-copy .last .1 .1 .1 .1 .0)) (known .first .given .1)))
+    ∙ ap (fromClosed _ _) (a-grid (closing .close-copy .result) _ (take (s .n * s .n) (closing .close-copy .last .1 .1 .1 .0)) (known .first .given .1)))
     (c .before .before .look .ensures .0) (c .answer-of .ensures)
 
 pub search-accepted-spec : {M : Type 1} → statement M
@@ -92,13 +90,12 @@ search-accepted-spec =
     (tie.spec
     some-empty-requires
     returns
-    fill-half-rows-requires
     slice-aggregate-close-copy
     close-copy-requires
     enum-known-first
     returns-2
     mul-cells
-    sub-t22
+    sub-t18
     array-share-prefix-work
     slice-aggregate-look
     look-requires

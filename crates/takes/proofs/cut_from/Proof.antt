@@ -2,56 +2,65 @@
 use mathlib.Core.Path.{_≡_, subst}
 use Prim.Native.Nat.{_+_, _-_, _*_, _≤_}
 use Rattle.takes.specs.Steps.{Passes}
-use Rattle.takes.proofs.StepsLaws.{first-stays, first-cuts, second-stays, second-cuts, passes-none, passes-more, finds-end}
+use Rattle.takes.proofs.StepsLaws.{left-is, first-quiet, first-cuts, second-quiet, second-cuts, passes-none, passes-more, finds-end}
 use native.Mathlib.Omega.{arith}
 use borrow.Author.Needs.{needs}
 use Rattle.takes.proofs.cut_from.Statement.{statement}
 use Rattle.takes.proofs.cut_from.Tie as tie
 
 abbrev Inv-loop : tie.InvT-loop
-Inv-loop rows g n i j from k₀ k = (from ≤ k) × (k ≤ n) × Passes n i j g (from * 2) (k * 2)
+Inv-loop v w g n i j from k₀ k = (from ≤ k) × (k ≤ n) × Passes n i j g (from * 2) (k * 2)
 
 abbrev μ-loop : tie.MeasureT-loop
-μ-loop rows g n i j from k₀ k = n - k
+μ-loop v w g n i j from k₀ k = n - k
 
 loop-holds : tie.Need-loop-holds Inv-loop μ-loop
 loop-holds c = (omega arith, c .before .pre .3, passes-none _ _ _ _ _ (omega (arith, c .before .pre .3)))
 
-left-by-requires : tie.Need-left-by-requires Inv-loop μ-loop
-left-by-requires c κs = search needs
-
 get-requires : tie.Need-get-requires Inv-loop μ-loop
 get-requires c κs = search needs
-
-mul-t12 : tie.Need-mul-t12 Inv-loop μ-loop
-mul-t12 c = search needs
-
-returns : tie.Need-returns Inv-loop μ-loop
-returns c =
-    record {
-      passes = c .before .before .before .before .loop .inv .2;
-      cuts = λ h. first-cuts _ _ _ _ _ _ _ (c .before .before .left-by .ensures) (c .before .get .ensures) (c .if1 .taken);
-    }
-
-left-by-requires-2 : tie.Need-left-by-requires-2 Inv-loop μ-loop
-left-by-requires-2 c κs = search needs
 
 get-requires-2 : tie.Need-get-requires-2 Inv-loop μ-loop
 get-requires-2 c κs = search needs
 
-mul-t13 : tie.Need-mul-t13 Inv-loop μ-loop
-mul-t13 c = search needs
+compose-by-requires : tie.Need-compose-by-requires Inv-loop μ-loop
+compose-by-requires c κs = c .before .before .before .before .before .pre .0 .back
 
-add-t14 : tie.Need-add-t14 Inv-loop μ-loop
-add-t14 c = search needs
+mul-t15 : tie.Need-mul-t15 Inv-loop μ-loop
+mul-t15 c = search needs
+
+converse-of-requires : tie.Need-converse-of-requires Inv-loop μ-loop
+converse-of-requires c κs = search needs
+
+returns : tie.Need-returns Inv-loop μ-loop
+returns c =
+    let F = c .before .before in
+    let T = F .before .before .before in
+    let s = T .before .before .before .pre in
+    record {
+      passes = T .before .loop .inv .2;
+      cuts = λ h. first-cuts _ _ _ _ _ (s .4) (s .1) (s .2) (T .loop-test .taken) _ _ (left-is _ _ _ _ _ _ _ _ _ (F .before .before .get .ensures) (F .before .get2 .ensures) (s .0 .mirror) (F .compose-by .ensures)) (F .before .before .get .ensures) (c .before .if1 .taken) _ (c .converse-of .ensures);
+    }
+
+compose-by-requires-2 : tie.Need-compose-by-requires-2 Inv-loop μ-loop
+compose-by-requires-2 c κs = c .before .before .before .before .before .before .before .pre .0 .there
+
+mul-t17 : tie.Need-mul-t17 Inv-loop μ-loop
+mul-t17 c = search needs
+
+add-t18 : tie.Need-add-t18 Inv-loop μ-loop
+add-t18 c = search needs
 
 returns-2 : tie.Need-returns-2 Inv-loop μ-loop
 returns-2 c =
     let F = c .before .before .before in
-    let L = F .before .before .before .before in
+    let T = F .before .before .before in
+    let s = T .before .before .before .pre in
+    let ki = F .before .before .get .ensures in
+    let kj = F .before .get2 .ensures in
     record {
-      passes = passes-more _ _ _ _ _ _ (omega (arith, F .before .before .before .loop-test .taken)) (L .loop .inv .2) (first-stays _ _ _ _ _ _ _ (F .before .before .left-by .ensures) (F .before .get .ensures) (F .if1 .left));
-      cuts = λ h. second-cuts _ _ _ _ _ _ _ (c .before .before .left-by2 .ensures) (c .before .get2 .ensures) (c .if2 .taken);
+      passes = passes-more _ _ _ _ _ _ (omega (arith, T .loop-test .taken)) (T .before .loop .inv .2) (first-quiet _ _ _ _ _ (s .4) (s .1) (s .2) (T .loop-test .taken) _ _ (left-is _ _ _ _ _ _ _ _ _ ki kj (s .0 .mirror) (F .compose-by .ensures)) ki (c .before .before .if1 .left));
+      cuts = λ h. second-cuts _ _ _ _ _ (s .4) (s .1) (s .2) (T .loop-test .taken) _ _ (left-is _ _ _ _ _ _ _ _ _ kj ki (s .0 .set) (c .before .compose-by2 .ensures)) kj (c .if2 .taken);
     }
 
 add-k : tie.Need-add-k Inv-loop μ-loop
@@ -63,19 +72,22 @@ loop-less c = search needs
 loop-again : tie.Need-loop-again Inv-loop μ-loop
 loop-again c =
     let F = c .before .before .before in
-    let L = F .before .before .before .before in
-    let test = F .before .before .before .loop-test .taken in
-    let first = passes-more _ _ _ _ _ _ (omega (arith, test)) (L .loop .inv .2) (first-stays _ _ _ _ _ _ _ (F .before .before .left-by .ensures) (F .before .get .ensures) (F .if1 .left)) in
-    let second = passes-more _ _ _ _ _ _ (omega (arith, test)) first (second-stays _ _ _ _ _ _ _ (c .before .before .left-by2 .ensures) (c .before .get2 .ensures) (c .if2 .left)) in
-    let e : L .loop .k * 2 + 1 + 1 ≡ (L .loop .k + 1) * 2 = omega arith in
-    (omega (arith, L .loop .inv .0), omega (arith, test), subst (Passes _ _ _ _ _) e second)
+    let T = F .before .before .before in
+    let L = T .before .loop in
+    let s = T .before .before .before .pre in
+    let ki = F .before .before .get .ensures in
+    let kj = F .before .get2 .ensures in
+    let test = T .loop-test .taken in
+    let first = passes-more _ _ _ _ _ _ (omega (arith, test)) (L .inv .2) (first-quiet _ _ _ _ _ (s .4) (s .1) (s .2) test _ _ (left-is _ _ _ _ _ _ _ _ _ ki kj (s .0 .mirror) (F .compose-by .ensures)) ki (c .before .before .if1 .left)) in
+    let second = passes-more _ _ _ _ _ _ (omega (arith, test)) first (second-quiet _ _ _ _ _ (s .4) (s .1) (s .2) test _ _ (left-is _ _ _ _ _ _ _ _ _ kj ki (s .0 .set) (c .before .compose-by2 .ensures)) kj (c .if2 .left)) in
+    let e : L .k * 2 + 1 + 1 ≡ (L .k + 1) * 2 = omega arith in
+    (omega (arith, L .inv .0), omega (arith, test), subst (Passes _ _ _ _ _) e second)
 
-mul-t15 : tie.Need-mul-t15 Inv-loop μ-loop
-mul-t15 c = search needs
+mul-t19 : tie.Need-mul-t19 Inv-loop μ-loop
+mul-t19 c = search needs
 
 returns-3 : tie.Need-returns-3 Inv-loop μ-loop
-returns-3 c =
-    finds-end _ _ _ _ _ _ (omega (arith, c .loop-test .left)) (c .before .loop .inv .2)
+returns-3 c = finds-end _ _ _ _ _ _ (omega (arith, c .loop-test .left)) (c .before .loop .inv .2)
 
 pub cut-from-spec : {M : Type 1} → statement M
 cut-from-spec =
@@ -84,17 +96,18 @@ cut-from-spec =
     Inv-loop
     μ-loop
     loop-holds
-    left-by-requires
     get-requires
-    mul-t12
-    returns
-    left-by-requires-2
     get-requires-2
-    mul-t13
-    add-t14
+    compose-by-requires
+    mul-t15
+    converse-of-requires
+    returns
+    compose-by-requires-2
+    mul-t17
+    add-t18
     returns-2
     add-k
     loop-less
     loop-again
-    mul-t15
+    mul-t19
     returns-3)

@@ -5,8 +5,8 @@ use lib.ListN.{length}
 use Rattle.theory.specs.Allen.{allen}
 use Rattle.theory.specs.Quick.{run}
 use Rattle.theory.proofs.StepLaws.{rest, rest-all, rest-dead, rest-going}
-use Rattle.takes.specs.Steps.{Waits, waitingIn}
-use Rattle.takes.proofs.StepsLaws.{is-dead, has-room, is-going, is-sound, stopped, finished}
+use Rattle.takes.specs.Steps.{Fair, Waits, waitingIn}
+use Rattle.takes.proofs.StepsLaws.{is-dead, has-room, is-going, is-sound, going-fair, stopped, finished}
 use Rattle.takes.proofs.WaitingLaws.{cleared, all-left}
 use borrow.Author.Needs.{needs}
 use native.Mathlib.Omega.{arith}
@@ -14,15 +14,15 @@ use Rattle.takes.proofs.takes.Statement.{statement}
 use Rattle.takes.proofs.takes.Tie as tie
 
 abbrev Inv-loop : tie.InvT-loop
-Inv-loop rows g₀ ring₀ flag₀ n limit at₀ t₀ g ring flag at t =
+Inv-loop g₀ ring₀ flag₀ n limit at₀ t₀ g ring flag at t =
     (t ≤ limit) × (length g ≡ length g₀) × Waits n ring flag at
-    × (rest allen n limit t g (waitingIn ring at) ≡ run allen n limit 0 g₀ (waitingIn ring₀ at₀))
+    × (rest allen n limit t g (waitingIn ring at) ≡ run allen n limit 0 g₀ (waitingIn ring₀ at₀)) × Fair n g
 
 abbrev μ-loop : tie.MeasureT-loop
-μ-loop rows g₀ ring₀ flag₀ n limit at₀ t₀ g ring flag at t = limit - t
+μ-loop g₀ ring₀ flag₀ n limit at₀ t₀ g ring flag at t = limit - t
 
 loop-holds : tie.Need-loop-holds Inv-loop μ-loop
-loop-holds c = (search needs, search needs, c .before .pre .2, rest-all _ _ _ _ _)
+loop-holds c = (search needs, search needs, c .before .pre .1, rest-all _ _ _ _ _, c .before .pre .0)
 
 clear-flags-requires : tie.Need-clear-flags-requires Inv-loop μ-loop
 clear-flags-requires c κs = c .before .before .before .before .loop .inv .2 .flag-len
@@ -37,17 +37,15 @@ returns c =
     (sym (stopped _ _ _ _ _ _ _ (I .before .if1 .taken) (I .if2 .taken)) ∙ v .3, cleared _ _ _ (v .2 .ring-len) (c .clear-flags .ensures))
 
 leave-requires : tie.Need-leave-requires Inv-loop μ-loop
-leave-requires c κs = (c .before .before .before .before .before .before .before .pre .1 .few, c .before .before .before .if1 .taken, c .before .before .before .before .before .loop .inv .2)
+leave-requires c κs = (c .before .before .before .before .before .before .before .pre .0 .few, c .before .before .before .if1 .taken, c .before .before .before .before .before .loop .inv .2)
 
 add-t : tie.Need-add-t Inv-loop μ-loop
 add-t c = search needs
 
 take-pair-requires : tie.Need-take-pair-requires Inv-loop μ-loop
 take-pair-requires c κs =
-    let s = c .before .before .before .before .before .before .before .before .before .before .before .before in
-    let L = c .before .before .before .before .before .before .before .before .before .before .loop in
     let e = c .before .before .before .before .leave .ensures in
-    (s .pre .0, omega (arith, e .pair), omega (arith, e .pair), omega (arith, e .pair), record { few = s .pre .1 .few; fits = omega (arith, s .pre .1 .fits, L .inv .1) }, e .waiting)
+    (omega (arith, e .pair), omega (arith, e .pair), omega (arith, e .pair), c .before .before .before .before .before .before .before .before .before .before .loop .inv .4, e .waiting)
 
 enum-known-one : tie.Need-enum-known-one Inv-loop μ-loop
 enum-known-one c = search needs
@@ -56,7 +54,7 @@ enum-told : tie.Need-enum-told Inv-loop μ-loop
 enum-told c = search needs
 
 clear-flags-requires-2 : tie.Need-clear-flags-requires-2 Inv-loop μ-loop
-clear-flags-requires-2 c κs = has-room _ _ _ _ _ _ (c .before .before .before .before .before .take-pair .ensures) (c .before .enum-told .given .1) .1
+clear-flags-requires-2 c κs = has-room _ _ _ _ _ _ (c .before .before .before .before .before .take-pair .ensures .0) (c .before .enum-told .given .1) .1
 
 same-length-2 : tie.Need-same-length-2 Inv-loop μ-loop
 same-length-2 c = search needs
@@ -68,9 +66,9 @@ returns-2 c =
     let I = E .before .before .before in
     let L = I .before .before .before .loop in
     let told = c .before .before .enum-told .given .1 in (
-      sym (rest-dead _ _ _ _ _ _ _ (omega (arith, L .inv .0, I .if2 .left)) (is-dead _ _ _ _ _ _ (T .take-pair .ensures) told))
+      sym (rest-dead _ _ _ _ _ _ _ (omega (arith, L .inv .0, I .if2 .left)) (is-dead _ _ _ _ _ _ (T .take-pair .ensures .0) told))
           ∙ sym (ap (rest _ _ _ _ _) (E .leave .ensures .was)) ∙ L .inv .3,
-      cleared _ _ _ (has-room _ _ _ _ _ _ (T .take-pair .ensures) told .0) (c .clear-flags2 .ensures),
+      cleared _ _ _ (has-room _ _ _ _ _ _ (T .take-pair .ensures .0) told .0) (c .clear-flags2 .ensures),
     )
 
 loop-less : tie.Need-loop-less Inv-loop μ-loop
@@ -85,9 +83,10 @@ loop-again c =
     let one = c .before .one .given .1 in (
       omega (arith, L .inv .0, I .if2 .left),
       search needs,
-      is-sound _ _ _ _ _ _ (T .take-pair .ensures) _ one,
-      sym (rest-going _ _ _ _ _ _ _ (omega (arith, L .inv .0, I .if2 .left)) _ _ (is-going _ _ _ _ _ _ (T .take-pair .ensures) _ one))
+      is-sound _ _ _ _ _ _ (T .take-pair .ensures .0) _ one,
+      sym (rest-going _ _ _ _ _ _ _ (omega (arith, L .inv .0, I .if2 .left)) _ _ (is-going _ _ _ _ _ _ (T .take-pair .ensures .0) _ one))
           ∙ sym (ap (rest _ _ _ _ _) (E .leave .ensures .was)) ∙ L .inv .3,
+      going-fair _ _ _ _ one (T .take-pair .ensures .1),
     )
 
 same-length-3 : tie.Need-same-length-3 Inv-loop μ-loop
