@@ -3,15 +3,12 @@ ghost use mathlib.Core.Path.{_≡_};
 ghost use mathlib.Core.Bool.{false, _||_};
 ghost use mathlib.Core.List.{_++_};
 ghost use Prim.Native.Nat.{_*_, _≤_, _<_};
-ghost use lib.Bits.{bitAnd};
 ghost use lib.ListN.{length, take, drop, replicate};
-ghost use Rattle.relation.specs.Composition.{converse, compose};
-ghost use Rattle.relation.specs.HalfRows.{HalfRows};
-ghost use Rattle.grid.specs.Cells.{cell, put, putBoth, Held, someEmpty};
+ghost use Rattle.relation.specs.Composition.{converse};
+ghost use Rattle.grid.specs.Cells.{cell, put, putBoth, someEmpty};
 ghost use Rattle.grid.specs.Accepted.{sizeRefusal, cellRefusal, gridRefusal, someLarge, someNotEq, unlike, someUnlike, judgedNumber};
 ghost use Rattle.grid.specs.Steps.{aboveUnlike};
 use refusal::Refusal;
-use relation::HALF_ROWS;
 
 // The largest number of events, the set of all relations, and the set of eq alone.
 pub const EVENTS: usize = 32;
@@ -50,17 +47,6 @@ pub fn put_both(g: &mut [u16], n: usize, i: usize, j: usize, a: u16)
     let turned = relation::converse_of(a);
     put(g, n, i, j, a);
     put(g, n, j, i, turned);
-}
-
-// What (a, m) with (m, b) leaves of (a, b), from the half rows.
-pub fn left_by(rows: &[u16; HALF_ROWS], g: &[u16], n: usize, a: usize, m: usize, b: usize) -> u16
-    requires { ⌜ HalfRows (now rows) × (a < n) × (m < n) × (b < n) × Held n (now g) ⌝ }
-    ensures { λ x. ⌜ x ≡ bitAnd (cell n (now (g .entry)) a b) (compose (cell n (now (g .entry)) a m) (cell n (now (g .entry)) m b)) ⌝ }
-{
-    let ab = get(g, n, a, b);
-    let am = get(g, n, a, m);
-    let mb = get(g, n, m, b);
-    relation::cut_by(rows, ab, am, mb)
 }
 
 pub fn either(a: bool, b: bool) -> bool

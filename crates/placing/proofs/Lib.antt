@@ -4,6 +4,7 @@ pub mod EarlierLaws
 pub mod PlacingLaws
 pub mod SettleLaws
 pub mod CheckLaws
+mod FillLaws
 mod StepLaws
 mod EntryLaws
 pub mod SignedLaws

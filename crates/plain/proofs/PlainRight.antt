@@ -21,8 +21,9 @@ use Rattle.theory.specs.Sweeps.{DeadEnd}
 use Rattle.theory.proofs.ClosingLaws.{closing-same, closing-unique}
 use Rattle.theory.proofs.KeepLaws.{Good}
 use Rattle.theory.proofs.PlainLaws.{dead-closing, cuts-good, still-closed}
-use Rattle.theory.proofs.QuickRight.{empty-right, start-good}
-use Rattle.theory.proofs.GivenLaws.{fine, full, hole}
+use Rattle.theory.proofs.FairLaws.{fair-good}
+use Rattle.theory.proofs.QuickRight.{empty-right}
+use Rattle.theory.proofs.GivenLaws.{fine, fair, hole}
 use Rattle.theory.proofs.AllenLaws.{lawful, eq-lawful}
 use Rattle.plain.specs.Answers.{EmptyCell, PlainCloses}
 use Rattle.plain.specs.Routes.{Sweeps}
@@ -31,7 +32,7 @@ use Rattle.plain.specs.declared.PlainAnswer.the-variants.{Closed, Contra
 
 module _ (n : ℕ) (g : List ℕ) (a : Accepted n g) where
   good : someEmpty g ≡ false → Good allen n g g
-  good e = start-good allen lawful n g (fine n g a) (full n g a e)
+  good e = fair-good allen lawful n g (fair n g a e)
 
   none-at-start : someEmpty g ≡ true → Closing allen n (cell n g) (λ i j. 0)
   none-at-start e = let h = hole n g a e in empty-right allen lawful n g (fine n g a) (h .0) (h .1) (h .2) (h .3) (h .4)

@@ -6,6 +6,8 @@ use mathlib.Core.List.{List}
 use Prim.Native.Nat.{ℕ, _*_, _≤_, _<_}
 use lib.Count.{ones}
 use lib.ListN.{replicate}
+use Rattle.relation.specs.Packed.{RowsOf}
+use Rattle.relation.specs.declared.Rows.{Rows}
 use Rattle.grid.specs.Cells.{cell, someEmpty}
 use Rattle.theory.specs.Allen.{allen}
 use Rattle.theory.specs.Sweeps.{Distinct, Cuts, DeadEnd, Progress, value}
@@ -14,41 +16,42 @@ use Rattle.plain.specs.declared.Swept.the-variants.{Dead, Moved}
 use Rattle.plain.specs.declared.PlainAnswer.{PlainAnswer}
 use Rattle.plain.specs.declared.PlainAnswer.the-variants.{Closed, Contradiction, Refused}
 
--- from a to b over m
-abbrev pub OneRoute : ℕ → ℕ → ℕ → ℕ → ℕ → ℕ → ℕ → Type 0
-OneRoute n a m b x y z = (x ≡ a) × (y ≡ m) × (z ≡ b) × Distinct n x z y
+-- over m to b, from events below k
+abbrev pub OverTo : ℕ → ℕ → ℕ → ℕ → ℕ → ℕ → ℕ → Type 0
+OverTo n m b k x y z = (x < k) × (y ≡ m) × (z ≡ b) × Distinct n x z y
 
--- from a to b over events below k
-abbrev pub CellTo : ℕ → ℕ → ℕ → ℕ → ℕ → ℕ → ℕ → Type 0
-CellTo n a b k x y z = (x ≡ a) × (y < k) × (z ≡ b) × Distinct n x z y
+-- to b, over events below k, from events before b
+abbrev pub EventTo : ℕ → ℕ → ℕ → ℕ → ℕ → ℕ → Type 0
+EventTo n b k x y z = (x < z) × (y < k) × (z ≡ b) × Distinct n x z y
 
--- from a to events after it and below j
-abbrev pub RowTo : ℕ → ℕ → ℕ → ℕ → ℕ → ℕ → Type 0
-RowTo n a j x y z = (x ≡ a) × (x < z) × (z < j) × Distinct n x z y
-
--- from events below i to events after them
+-- to events below k, from events before them
 abbrev pub AllTo : ℕ → ℕ → ℕ → ℕ → ℕ → Type 0
-AllTo n i x y z = (x < i) × (x < z) × Distinct n x z y
+AllTo n k x y z = (x < z) × (z < k) × Distinct n x z y
 
--- the route from a to b over m leaves the cell as it is
+-- these are the rows of (m, b)
+pub record Sees (n m b : ℕ) (g : List ℕ) (rows : Rows) : Type 0 where
+  pub right : RowsOf rows
+  pub set : rows .set ≡ cell n g m b
+
+-- the route from a over m to b leaves its cell as it is
 abbrev pub Still : ℕ → ℕ → ℕ → List ℕ → ℕ → Type 0
-Still n a b g m = value allen n g a m b ≡ cell n g a b
+Still n m b g a = value allen n g a m b ≡ cell n g a b
 
--- so does each from k on and below r
-pub record StillUntil (n a b : ℕ) (g : List ℕ) (k r : ℕ) : Type 0 where
+-- so does each from an event from k on and below r
+pub record StillUntil (n m b : ℕ) (g : List ℕ) (k r : ℕ) : Type 0 where
   pub from : k ≤ r
-  pub within : r ≤ n
-  pub each : (m : ℕ) → k ≤ m → m < r → Still n a b g m
+  pub within : r ≤ b
+  pub each : (a : ℕ) → k ≤ a → a < r → Still n m b g a
 
--- the route from a to b over m changes the cell: it leaves this set
-pub record Changes (n a b : ℕ) (g : List ℕ) (m set : ℕ) : Type 0 where
+-- the route from a over m to b changes its cell: it leaves this set
+pub record Changes (n m b : ℕ) (g : List ℕ) (a set : ℕ) : Type 0 where
   pub left : set ≡ value allen n g a m b
   pub less : set ≡ cell n g a b → ⊥
 
--- the route over r is the first from k on that changes the cell, or r is n
-pub record Finds (n a b : ℕ) (g : List ℕ) (k r set : ℕ) : Type 0 where
-  pub passed : StillUntil n a b g k r
-  pub changes : r < n → Changes n a b g r set
+-- the route from r is the first from k on that changes its cell, or r is b
+pub record Finds (n m b : ℕ) (g : List ℕ) (k r set : ℕ) : Type 0 where
+  pub passed : StillUntil n m b g k r
+  pub changes : r < b → Changes n m b g r set
 
 -- a part of a sweep over the routes S
 abbrev pub Pass : ℕ → (ℕ → ℕ → ℕ → Type 0) → List ℕ → Swept → List ℕ → Type 0

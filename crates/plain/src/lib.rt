@@ -1,14 +1,14 @@
 // Plain closing of a grid: sweeps over all routes until one changes nothing.
 ghost use Prim.Native.Nat.{_≤_, _<_};
-ghost use Rattle.relation.specs.HalfRows.{HalfRows};
 ghost use Rattle.grid.specs.Cells.{Held};
 ghost use Rattle.grid.specs.Accepted.{Accepted};
+ghost use Rattle.theory.specs.Fair.{Fair};
+ghost use Rattle.theory.specs.Allen.{allen};
 ghost use Rattle.plain.specs.Answers.{PlainCloses};
-ghost use Rattle.plain.specs.Routes.{OneRoute, CellTo, RowTo, AllTo, Changes, Finds, Pass, Sweeps};
+ghost use Rattle.plain.specs.Routes.{OverTo, EventTo, AllTo, Sees, Finds, Pass, Sweeps};
 use grid::Judged;
 use refusal::Refusal;
-use relation::HALF_ROWS;
-use relation::UNFILLED;
+use relation::Rows;
 
 pub enum PlainAnswer {
     Closed,
@@ -29,17 +29,13 @@ pub fn plain_close(g: &mut [u16], n: usize) -> PlainAnswer
     let judged = grid::judge(g, n);
     match judged {
         Judged::Refused(r) => PlainAnswer::Refused(r),
-        Judged::Accepted => {
-            let mut rows = [UNFILLED; HALF_ROWS];
-            relation::fill_half_rows(&mut rows);
-            sweep_accepted(&rows, g, n)
-        }
+        Judged::Accepted => sweep_accepted(g, n),
     }
 }
 
 // Sweeps an accepted grid until a sweep changes nothing.
-fn sweep_accepted(rows: &[u16; HALF_ROWS], g: &mut [u16], n: usize) -> PlainAnswer
-    requires { ⌜ HalfRows (now rows) × Accepted n (now g) ⌝ }
+fn sweep_accepted(g: &mut [u16], n: usize) -> PlainAnswer
+    requires { ⌜ Accepted n (now g) ⌝ }
     ensures { λ r. ⌜ Sweeps n (now (g .entry)) r (now (g .exit)) ⌝ }
 {
     if grid::some_empty(g) {
@@ -47,7 +43,7 @@ fn sweep_accepted(rows: &[u16; HALF_ROWS], g: &mut [u16], n: usize) -> PlainAnsw
         return PlainAnswer::Contradiction;
     }
     loop {
-        let one = sweep_all(rows, g, n);
+        let one = sweep_all(g, n);
         let Swept::Moved(changed) = one else {
             grid::clear(g);
             return PlainAnswer::Contradiction;
@@ -59,100 +55,92 @@ fn sweep_accepted(rows: &[u16; HALF_ROWS], g: &mut [u16], n: usize) -> PlainAnsw
 }
 
 // One sweep.
-fn sweep_all(rows: &[u16; HALF_ROWS], g: &mut [u16], n: usize) -> Swept
-    requires { ⌜ HalfRows (now rows) × Held n (now g) ⌝ }
+fn sweep_all(g: &mut [u16], n: usize) -> Swept
+    requires { ⌜ Fair allen n (now g) ⌝ }
     ensures { λ r. ⌜ Pass n (AllTo n n) (now (g .entry)) r (now (g .exit)) ⌝ }
 {
     let mut changed = false;
-    let mut i = 0;
-    while i < n {
-        let one = sweep_row(rows, g, n, i);
+    let mut b = 0;
+    while b < n {
+        let one = sweep_to(g, n, b);
         let Swept::Moved(now) = one else {
             return Swept::Dead;
         };
         changed = grid::either(changed, now);
-        i += 1;
+        b += 1;
     }
     Swept::Moved(changed)
 }
 
-// The part of a sweep from event a.
-fn sweep_row(rows: &[u16; HALF_ROWS], g: &mut [u16], n: usize, a: usize) -> Swept
-    requires { ⌜ HalfRows (now rows) × (a < n) × Held n (now g) ⌝ }
-    ensures { λ r. ⌜ Pass n (RowTo n a n) (now (g .entry)) r (now (g .exit)) ⌝ }
+// The part of a sweep to event b.
+fn sweep_to(g: &mut [u16], n: usize, b: usize) -> Swept
+    requires { ⌜ (b < n) × Fair allen n (now g) ⌝ }
+    ensures { λ r. ⌜ Pass n (EventTo n b n) (now (g .entry)) r (now (g .exit)) ⌝ }
 {
     let mut changed = false;
-    let mut j = a + 1;
-    while j < n {
-        let one = sweep_cell(rows, g, n, a, j);
-        let Swept::Moved(now) = one else {
-            return Swept::Dead;
-        };
-        changed = grid::either(changed, now);
-        j += 1;
-    }
-    Swept::Moved(changed)
-}
-
-// The part of a sweep from event a to event b.
-fn sweep_cell(rows: &[u16; HALF_ROWS], g: &mut [u16], n: usize, a: usize, b: usize) -> Swept
-    requires { ⌜ HalfRows (now rows) × (a < b) × (b < n) × Held n (now g) ⌝ }
-    ensures { λ r. ⌜ Pass n (CellTo n a b n) (now (g .entry)) r (now (g .exit)) ⌝ }
-{
-    let mut changed = false;
-    let mut k = 0;
-    loop {
-        let found = next_route(rows, g, n, a, b, k);
-        let m = found.over;
-        if m == n {
-            return Swept::Moved(changed);
-        }
-        let one = cut_by_route(g, n, a, m, b, found.set);
-        let Swept::Moved(now) = one else {
-            return Swept::Dead;
-        };
-        changed = grid::either(changed, now);
-        k = m + 1;
-    }
-}
-
-// A route that changes its cell, by the event that it goes over, and what it leaves.
-pub struct Found {
-    pub over: usize,
-    pub set: u16,
-}
-
-// The first route from a to b over an event from k on that changes cell (a, b), or event n. Most routes change nothing, and this only
-// reads.
-fn next_route(rows: &[u16; HALF_ROWS], g: &[u16], n: usize, a: usize, b: usize, k: usize) -> Found
-    requires { ⌜ HalfRows (now rows) × (a < n) × (b < n) × (k ≤ n) × Held n (now g) ⌝ }
-    ensures { λ r. ⌜ Finds n a b (now (g .entry)) k (r .over) (r .set) ⌝ }
-{
-    let mut m = k;
+    let mut m = 0;
     while m < n {
-        let set = grid::left_by(rows, g, n, a, m, b);
-        if set != grid::get(g, n, a, b) {
-            return Found { over: m, set };
-        }
+        let one = sweep_over(g, n, m, b);
+        let Swept::Moved(now) = one else {
+            return Swept::Dead;
+        };
+        changed = grid::either(changed, now);
         m += 1;
     }
-    Found { over: n, set: 0 }
+    Swept::Moved(changed)
 }
 
-// Cuts (a, b) to this set, which is what (a, m) with (m, b) leaves of it.
-fn cut_by_route(g: &mut [u16], n: usize, a: usize, m: usize, b: usize, set: u16) -> Swept
-    requires { ⌜ (a < b) × (b < n) × (m < n) × Held n (now g) × Changes n a b (now g) m set ⌝ }
-    ensures { λ r. ⌜ Pass n (OneRoute n a m b) (now (g .entry)) r (now (g .exit)) ⌝ }
+// The part of a sweep over event m to event b. The rows of (m, b) serve for all events that a route can come from. Where nothing is
+// said of m to b, no route changes anything.
+fn sweep_over(g: &mut [u16], n: usize, m: usize, b: usize) -> Swept
+    requires { ⌜ (m < n) × (b < n) × Fair allen n (now g) ⌝ }
+    ensures { λ r. ⌜ Pass n (OverTo n m b b) (now (g .entry)) r (now (g .exit)) ⌝ }
 {
-    if m == a {
-        return Swept::Moved(false);
-    }
     if m == b {
         return Swept::Moved(false);
     }
-    if set == 0 {
-        return Swept::Dead;
+    let half = grid::get(g, n, m, b);
+    if half == grid::ALL {
+        return Swept::Moved(false);
     }
-    grid::put_both(g, n, a, b, set);
-    Swept::Moved(true)
+    let rows = relation::rows_of(half);
+    let mut changed = false;
+    let mut k = 0;
+    loop {
+        let found = next_route(rows, g, n, m, b, k);
+        let a = found.from;
+        let set = found.set;
+        if a == b {
+            return Swept::Moved(changed);
+        }
+        if set == 0 {
+            return Swept::Dead;
+        }
+        grid::put_both(g, n, a, b, set);
+        changed = true;
+        k = a + 1;
+    }
+}
+
+// A route that changes its cell, by the event that it comes from, and what it leaves.
+pub struct Found {
+    pub from: usize,
+    pub set: u16,
+}
+
+// The first route over m to b from event k on that changes its cell, or event b. Most routes change nothing, and this only reads.
+fn next_route(rows: Rows, g: &[u16], n: usize, m: usize, b: usize, k: usize) -> Found
+    requires { ⌜ Sees n m b (now g) rows × (m < n) × (b < n) × (k ≤ b) × Held n (now g) ⌝ }
+    ensures { λ r. ⌜ Finds n m b (now (g .entry)) k (r .from) (r .set) ⌝ }
+{
+    let mut a = k;
+    while a < b {
+        let whole = grid::get(g, n, a, b);
+        let set = whole & relation::compose_by(grid::get(g, n, a, m), rows);
+        if set != whole {
+            return Found { from: a, set };
+        }
+        a += 1;
+    }
+    Found { from: b, set: 0 }
 }

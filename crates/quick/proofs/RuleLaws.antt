@@ -17,7 +17,7 @@ use Rattle.theory.specs.Quick.{Ended, contradiction, closed, paused, run}
 use Rattle.theory.proofs.ClosingLaws.{closing-same}
 use Rattle.theory.proofs.SettledLaws.{Right}
 use Rattle.theory.proofs.TakeLaws.{Bounded, LeavesLong, run-long}
-use Rattle.theory.proofs.GivenLaws.{fine, full, hole}
+use Rattle.theory.proofs.GivenLaws.{fine, fair, hole}
 use Rattle.theory.proofs.QuickRight.{start, empty-right, quick-right, takes-most, takes-bound, takes-most-is, takes-always}
 use Rattle.theory.proofs.AllenLaws.{lawful, eq-lawful, sized}
 use Rattle.quick.specs.Answers.{quickRule, cellsBy}
@@ -48,7 +48,7 @@ module _ (n : ℕ) (g : List ℕ) (a : Accepted n g) where
             subst (Right allen n g) (sym (rule-empty n limit g e))
             (empty-right allen lawful n g (fine n g a) (h .0) (h .1) (h .2) (h .3) (h .4))
         go false e =
-            subst (Right allen n g) (sym (rule-run n limit g e)) (quick-right allen lawful n g (fine n g a) (full n g a e) eq-lawful limit)
+            subst (Right allen n g) (sym (rule-run n limit g e)) (quick-right allen lawful n g (fair n g a e) eq-lawful limit)
 
     -- what the cells hold afterwards is the closing, unless the run was paused
     pub rule-closing : (e : Ended) → quickRule n limit g ≡ e → ((t : ℕ) (h : List ℕ) → e ≡ paused t h → ⊥)
@@ -71,12 +71,12 @@ module _ (n : ℕ) (g : List ℕ) (a : Accepted n g) where
           subst (Bounded limit 0) (sym (rule-empty n limit g e)) (omega arith),
         )
         go false e =
-            let F = fine n g a in (
-              takes-most allen lawful n g F (full n g a e) ones sized,
-              takes-most-is allen lawful n g F (full n g a e) ones sized,
-              takes-always allen lawful n g F (full n g a e) ones sized,
-              subst (Bounded limit (takes-most allen lawful n g F (full n g a e) ones sized)) (sym (rule-run n limit g e))
-                  (takes-bound allen lawful n g F (full n g a e) ones sized limit),
+            let F = fair n g a e in (
+              takes-most allen lawful n g F ones sized,
+              takes-most-is allen lawful n g F ones sized,
+              takes-always allen lawful n g F ones sized,
+              subst (Bounded limit (takes-most allen lawful n g F ones sized)) (sym (rule-run n limit g e))
+                  (takes-bound allen lawful n g F ones sized limit),
             )
 
     -- the cells are as many as before
@@ -93,4 +93,4 @@ module _ (n : ℕ) (g : List ℕ) (a : Accepted n g) where
         go false e =
             subst (λ (x : Ended). length (cellsBy n x) ≡ n * n) (sym (rule-run n limit g e))
             (ends (run allen n limit 0 g (allPairs n))
-            (run-long allen lawful n (a .few) g (length g) limit 0 g (allPairs n) (start allen lawful n g (fine n g a) (full n g a e)) refl))
+            (run-long allen lawful n (a .few) g (length g) limit 0 g (allPairs n) (start allen lawful n g (fair n g a e)) refl))

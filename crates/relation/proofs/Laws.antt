@@ -1,6 +1,5 @@
 -- The laws of composition of sets, from its meaning. Assumes nothing.
 use mathlib.Core.Path.{_≡_, refl, sym, ap, _∙_, subst}
-use mathlib.Core.Bool.{Bool, true, false}
 use mathlib.Core.Logic.{_↔_}
 use Prim.Native.Nat.{ℕ, zero, suc, _+_, _*_, _/_, _%_, _≤_, _<_}
 use native.Mathlib.Omega.{arith}
@@ -327,13 +326,6 @@ compose-small-right a b =
 -- what a with eq allows, where b has eq: a itself
 abbrev byEq : ℕ → ℕ → ℕ
 byEq a b = pickℕ (member 12 b) (a % 8192) 0
-
-pub byEq-lt : (a b : ℕ) → byEq a b < 8192
-byEq-lt a b = go (member 12 b)
-  where
-    go : (x : Bool) → pickℕ x (a % 8192) 0 < 8192
-    go true = omega arith
-    go false = lit< tt
 
 -- the eq of the second set apart from its other members
 pub compose-apart : (a b : ℕ) → bitOr (byEq a b) (compose a (b % 4096)) ≡ compose a b

@@ -5,10 +5,8 @@ pub mod Relations
 pub mod SetLaws
 pub mod LowestLaws
 pub mod UnionLaws
-pub mod FillLaws
 pub mod ExchangeLaws
 pub mod TableLaws
 pub mod Laws
-pub mod HalfRowLaws
 pub mod AnswerLaws
 mod PackedLaws

@@ -1,11 +1,11 @@
 -- The lowest member of a set, and the set without it. Assumes nothing.
-use mathlib.Core.Path.{_≡_, refl, sym, ap, ap₂, _∙_}
-use mathlib.Core.Bool.{Bool, true, false, not, _&&_}
+use mathlib.Core.Path.{_≡_, refl, sym, ap, _∙_}
+use mathlib.Core.Bool.{true, false}
 use Prim.Native.Nat.{ℕ, zero, suc, _+_, _-_, _*_, _/_, _%_, _^_, _<_, _≤_, min, suc-le-suc}
 use native.Mathlib.Nat.{pow-suc, not-suc-le-zero, zero-lt-suc, le-of-suc-le-suc, lt-of-not-le}
 use native.Mathlib.Omega.{arith}
-use lib.Dec.{T, eqb, eqb·suc-suc, eqb·zero-suc, eqb·suc-zero}
-use lib.Pow.{pow-pos, pow-mono}
+use lib.Dec.{T, eqb}
+use lib.Pow.{pow-mono}
 use lib.Bits.{bitAnd, and-self, and-step}
 use lib.Count.{trailingZeros, under}
 use borrow.Author.Tests.{eqb-true}
@@ -54,38 +54,6 @@ mark-le (suc t) n e =
     let p = pow-suc 2 t in
     let r = mark-le t (n / 2) (sym (member-high t n) ∙ e) in
     omega arith
-
--- without a member
-pub member-without : (t n u : ℕ) → member t n ≡ true → member u (n - 2 ^ t) ≡ (member u n && not (eqb u t))
-member-without zero n zero e =
-    let o : n % 2 ≡ 1 = eqb-true (n % 2) 1 (sym (member-low n) ∙ e) in
-    let z : (n - 1) % 2 ≡ 0 = omega arith in
-    member-low (n - 1) ∙ ap (λ (x : ℕ). eqb x 1) z ∙ sym (ap (λ (x : Bool). x && false) e)
-member-without zero n (suc u) e =
-    let o : n % 2 ≡ 1 = eqb-true (n % 2) 1 (sym (member-low n) ∙ e) in
-    let z : (n - 1) / 2 ≡ n / 2 = omega arith in
-    member-high u (n - 1) ∙ ap (member u) z ∙ sym (member-high u n) ∙ sym (rw (eqb·suc-zero u) (and-true (member (suc u) n)))
-  where
-    and-true : (x : Bool) → (x && true) ≡ x
-    and-true true = refl
-    and-true false = refl
-member-without (suc t) n zero e =
-    let p = pow-suc 2 t in
-    let q = pow-pos t in
-    let l = mark-le (suc t) n e in
-    let z : (n - 2 ^ suc t) % 2 ≡ n % 2 = omega arith in
-    member-low (n - 2 ^ suc t) ∙ ap (λ (x : ℕ). eqb x 1) z ∙ sym (member-low n) ∙ sym (rw (eqb·zero-suc t) (and-true (member zero n)))
-  where
-    and-true : (x : Bool) → (x && true) ≡ x
-    and-true true = refl
-    and-true false = refl
-member-without (suc t) n (suc u) e =
-    let p = pow-suc 2 t in
-    let h : member t (n / 2) ≡ true = sym (member-high t n) ∙ e in
-    let l = mark-le t (n / 2) h in
-    let z : (n - 2 ^ suc t) / 2 ≡ n / 2 - 2 ^ t = omega arith in
-    member-high u (n - 2 ^ suc t) ∙ ap (member u) z ∙ member-without t (n / 2) u h
-    ∙ ap₂ (λ (x y : Bool). x && not y) (sym (member-high u n)) (sym (eqb·suc-suc u t))
 
 -- without the lowest member: n cut with the number before it
 pub cut-lowest : (k n : ℕ) → zero < n → n < 2 ^ k → bitAnd n (n - 1) ≡ n - 2 ^ trailingZeros k n

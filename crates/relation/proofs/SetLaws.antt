@@ -183,13 +183,3 @@ inside-and a b h i =
     (λ t k. member-and t a b
     ∙ both-ways (member t a && member t b) (member t a) (and-left (member t a) (member t b))
     (λ w. and-both (member t a) (member t b) w (i .each t k w)))
-
--- what a set allows, a larger one allows
-pub and-or : (a b c : ℕ) → a < 65536 → bitAnd a b ≡ a → bitAnd a (bitOr b c) ≡ a
-and-or a b c h e =
-    let l : bitAnd a (bitOr b c) < 65536 = omega (arith, and-le-l a (bitOr b c)) in
-    same-below 16 (bitAnd a (bitOr b c)) a l h
-    (λ t k. member-and t a (bitOr b c) ∙ ap (λ (x : Bool). member t a && x) (member-or t b c)
-    ∙ both-ways (member t a && (member t b || member t c)) (member t a) (and-left (member t a) (member t b || member t c))
-    (λ w. and-both (member t a) (member t b || member t c) w
-    (or-left (member t b) (member t c) (and-right (member t a) (member t b) (subst T (sym (ap (member t) e) ∙ member-and t a b) w)))))

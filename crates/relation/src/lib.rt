@@ -1,16 +1,12 @@
 // Sets of the thirteen relations: converse and composition.
 ghost use mathlib.Core.Path.{_≡_};
 ghost use Prim.Native.Nat.{_+_, _-_, _*_, _%_, _^_, _<_};
-ghost use lib.Bits.{bitAnd};
 ghost use lib.Count.{trailingZeros};
-ghost use lib.ListN.{length};
 ghost use Rattle.relation.specs.Meaning.{exchanged, pickℕ};
 ghost use Rattle.relation.specs.Sets.{member};
 ghost use Rattle.relation.specs.Typed.{ListsExchanged};
-ghost use Rattle.relation.specs.Composition.{table, entry, converse, composeRow, compose};
+ghost use Rattle.relation.specs.Composition.{table, entry, converse, compose};
 ghost use Rattle.relation.specs.Packed.{pickedOf, FourAt, RowsFrom, Marked, RowsOf};
-ghost use Rattle.relation.specs.HalfRows.{HalfRows};
-ghost use Rattle.relation.specs.Filling.{FilledTo, Column, Joins, Adds, Begins, Half};
 ghost use Rattle.relation.specs.Answers.{saidOf, converseSaid, composeSaid};
 
 mod table;
@@ -67,13 +63,6 @@ pub fn has(a: u16, r: usize) -> bool
     (a >> r) % 2 == 1
 }
 
-// The lowest member of a set that has one.
-pub fn lowest(a: u16) -> usize
-    ensures { λ r. ⌜ r ≡ trailingZeros 16 a ⌝ }
-{
-    u16::trailing_zeros(a) as usize
-}
-
 // The set of one relation.
 pub fn mark(r: usize) -> u16
     requires { ⌜ r < 13 ⌝ }
@@ -111,6 +100,14 @@ pub fn converse_of(a: u16) -> u16
         r += 1;
     }
     out
+}
+
+// What relation r with relation s allows.
+fn entry(t: &[[u16; 13]; 13], r: usize, s: usize) -> u16
+    requires { ⌜ (now t ≡ table) × (r < 13) × (s < 13) ⌝ }
+    ensures { λ x. ⌜ x ≡ entry r s ⌝ }
+{
+    t[r][s]
 }
 
 // Relations r to r + 3 with relation s: four sets in one number, with sixteen digits for each.
@@ -286,131 +283,4 @@ fn compose_of(a: u16, b: u16) -> u16
 {
     let rows = rows_of(b);
     compose_by(a, rows)
-}
-
-// The places of the half rows, one for each half set, and the sets at each place: one for each relation, and none for the last three.
-pub const PLACES: usize = 128;
-
-pub const AT_PLACE: usize = 16;
-
-pub const HALF_ROWS: usize = PLACES * AT_PLACE;
-
-// What stands in the half rows before they are filled in. Zeros would be written by a call of memset, which an emulator runs slowly.
-pub const UNFILLED: u16 = 8191;
-
-// What relation r with relation s allows, and nothing where r is no relation.
-fn entry(t: &[[u16; 13]; 13], r: usize, s: usize) -> u16
-    requires { ⌜ (now t ≡ table) × (s < 13) ⌝ }
-    ensures { λ x. ⌜ x ≡ entry r s ⌝ }
-{
-    if 13 <= r {
-        return 0;
-    }
-    t[r][s]
-}
-
-// Each relation with relation s.
-fn column(t: &[[u16; 13]; 13], s: usize) -> [u16; AT_PLACE]
-    requires { ⌜ (now t ≡ table) × (s < 13) ⌝ }
-    ensures { λ col. ⌜ Column s col ⌝ }
-{
-    let mut col = [0u16; AT_PLACE];
-    let mut r = 0;
-    while r < AT_PLACE {
-        col[r] = entry(t, r, s);
-        r += 1;
-    }
-    col
-}
-
-// The sets at one place become those at another, each with its own of the column joined.
-fn join_column(rows: &mut [u16; HALF_ROWS], from: usize, to: usize, col: &[u16; AT_PLACE])
-    requires { ⌜ (from < to) × (to < 128) × FilledTo (now rows) (to * 16) × Joins from to (now col) ⌝ }
-    ensures { λ _. ⌜ FilledTo (now (rows .exit)) ((to + 1) * 16) ⌝ }
-{
-    let mut r = 0;
-    while r < AT_PLACE {
-        rows[to * AT_PLACE + r] = rows[from * AT_PLACE + r] | col[r];
-        r += 1;
-    }
-}
-
-// One more relation: so many places from `at` on come again after them, each with what relation s allows joined.
-fn add_relation(t: &[[u16; 13]; 13], rows: &mut [u16; HALF_ROWS], at: usize, size: usize, s: usize)
-    requires { ⌜ (now t ≡ table) × FilledTo (now rows) ((at + size) * 16) × Adds at size s ⌝ }
-    ensures { λ _. ⌜ FilledTo (now (rows .exit)) ((at + size * 2) * 16) ⌝ }
-{
-    let col = column(t, s);
-    let mut q = 0;
-    while q < size {
-        join_column(rows, at + q, at + size + q, &col);
-        q += 1;
-    }
-}
-
-// The place of no relation at all.
-fn begin_half(rows: &mut [u16; HALF_ROWS], at: usize)
-    requires { ⌜ (at < 128) × FilledTo (now rows) (at * 16) × Begins at ⌝ }
-    ensures { λ _. ⌜ FilledTo (now (rows .exit)) ((at + 1) * 16) ⌝ }
-{
-    let mut r = 0;
-    while r < AT_PLACE {
-        rows[at * AT_PLACE + r] = 0;
-        r += 1;
-    }
-}
-
-// The places from `at` on: one for each set of the six relations from first on. The six stand here one by one, so that the
-// compiler works the columns out.
-fn fill_half(t: &[[u16; 13]; 13], rows: &mut [u16; HALF_ROWS], at: usize, first: usize)
-    requires { ⌜ (now t ≡ table) × Half at first × FilledTo (now rows) (at * 16) ⌝ }
-    ensures { λ _. ⌜ FilledTo (now (rows .exit)) ((at + 64) * 16) ⌝ }
-{
-    begin_half(rows, at);
-    add_relation(t, rows, at, 1, first);
-    add_relation(t, rows, at, 2, first + 1);
-    add_relation(t, rows, at, 4, first + 2);
-    add_relation(t, rows, at, 8, first + 3);
-    add_relation(t, rows, at, 16, first + 4);
-    add_relation(t, rows, at, 32, first + 5);
-}
-
-// Fills in the half rows, once for many compositions.
-pub fn fill_half_rows(rows: &mut [u16; HALF_ROWS])
-    requires { ⌜ length (now rows) ≡ 2048 ⌝ }
-    ensures { λ _. ⌜ HalfRows (now (rows .exit)) ⌝ }
-{
-    let t = TABLE;
-    fill_half(&t, rows, 0, 0);
-    fill_half(&t, rows, 64, 6);
-}
-
-// One relation with a set but for its eq, from two half rows.
-fn row_by_halves(rows: &[u16; HALF_ROWS], r: usize, b: u16) -> u16
-    requires { ⌜ HalfRows (now rows) × (r < 13) ⌝ }
-    ensures { λ x. ⌜ x ≡ composeRow r (b % 4096) ⌝ }
-{
-    let set = b as usize;
-    let low = set % 64;
-    let high = 64 + set / 64 % 64;
-    rows[low * AT_PLACE + r] | rows[high * AT_PLACE + r]
-}
-
-// What a with b leaves of a set, from the half rows: for many calls. The eq of b allows all of a at once. Mostly a member or two
-// of a then allow all of the set, and the others are not looked at.
-pub fn cut_by(rows: &[u16; HALF_ROWS], set: u16, a: u16, b: u16) -> u16
-    requires { ⌜ HalfRows (now rows) ⌝ }
-    ensures { λ x. ⌜ x ≡ bitAnd set (compose a b) ⌝ }
-{
-    let mut out = given(b, 12, a % 8192);
-    let mut left = a % 8192;
-    while left != 0 {
-        let r = lowest(left);
-        out |= row_by_halves(rows, r, b);
-        if set & out == set {
-            return set;
-        }
-        left = without_lowest(left);
-    }
-    set & out
 }

@@ -13,12 +13,9 @@ use lib.IntN.{ℤ}
 use lib.ListN.{length}
 use types.Run.{OneOf}
 use denote.Enum.Declared.{tagOf}
-use Rattle.takes.specs.Steps.{Fair}
-use Rattle.theory.proofs.GivenLaws.{fine}
 use Rattle.relation.specs.Sets.{member}
 use Rattle.relation.proofs.SetLaws.{member-mark}
-use Rattle.relation.proofs.LowestLaws.{mark-le}
-use Rattle.relation.proofs.UnionLaws.{Next, next-of}
+use Rattle.relation.proofs.LowestLaws.{Lowest, lowest-thirteen, mark-le}
 use Rattle.grid.specs.Cells.{cell}
 use Rattle.theory.specs.Search.{Pair, emptied, closed, Found, placed, none, gaveUp, orNext, searchFrom, pairsFrom}
 use Rattle.takes.specs.Steps.{ended}
@@ -71,11 +68,6 @@ pub a-grid : (e : End) (t : ℕ) (g : List ℕ) → e ≡ Closed t → triedBy (
 a-grid e t g q = ap (λ (x : End). triedBy (ended x g)) q
 
 -- the grid that a try leaves
-pub searched-fair : (n : ℕ) (g : List ℕ) → Searched n g → Fair n g
-searched-fair n g S =
-    let f = fine n g (S .accepted) in
-    record { few = f .few; fits = f .fits; mirrored = f .mirrored; diagonal = f .diagonal; topped = f .topped; full = S .full }
-
 pub next-searched : (n i j r v : ℕ) (g g' : List ℕ) (e : End) → i < j → j < n → r < 13 → thereAt n (i, j) r g ≡ true → Searched n g
     → triedBy (ended e g') ≡ tryAt n (i, j) r g → e ≡ Closed v → length g' ≡ n * n → Searched n g'
 next-searched n i j r v g g' e up hj lt is S tried ends long =
@@ -186,15 +178,15 @@ module _ (n a : ℕ) (g : List ℕ) (S : Searched n g) (at s : Stand) (stands : 
   some : 0 < set
   some = cell-some n g S (at .i) (at .j) (in-grid .0) (in-grid .1) set is
 
-  lowest : Next set r
-  lowest = next-of set r (λ z. omega (arith, some)) (rw is (omega (arith, S .accepted .small (at .i) (at .j) (in-grid .0) (in-grid .1)))) refl
+  lowest : Lowest 13 set r
+  lowest = lowest-thirteen set some (rw is (omega (arith, S .accepted .small (at .i) (at .j) (in-grid .0) (in-grid .1))))
 
   mark : cell n g (at .i) (at .j) ≡ 2 ^ r
   mark = sym is ∙ omega (arith, alone, mark-le r set (lowest .is-in))
 
   others : (x : ℕ) → x < 13 → (x ≡ r → ⊥) → thereAt n (at .i, at .j) x g ≡ false
   unfolding thereAt
-  others x h ne = ap (member x) mark ∙ member-mark r x (lowest .small) h ∙ ne-eqb x r ne
+  others x h ne = ap (member x) mark ∙ member-mark r x (lowest .below) h ∙ ne-eqb x r ne
 
   there : thereAt n (at .i, at .j) r g ≡ true
   unfolding thereAt
@@ -206,7 +198,7 @@ module _ (n a : ℕ) (g : List ℕ) (S : Searched n g) (at s : Stand) (stands : 
   pub alone-goes-on : goesOn n a g s ≡ goesOn n a g at
   alone-goes-on =
       goes-on-next n at s (at .tries + 1) steps a g
-      ∙ sym (from-alone (thereAt n) (tryAt n) a (searchAt n a next) (at .i, at .j) g r (at .tries) (lowest .small) there others fresh
+      ∙ sym (from-alone (thereAt n) (tryAt n) a (searchAt n a next) (at .i, at .j) g r (at .tries) (lowest .below) there others fresh
       (try-same n (at .i) (at .j) r g S (in-grid .0) (in-grid .1) (in-grid .2) mark))
       ∙ look-start n a (at .i) (at .j) (at .tries) g next (after-next n (at .i) (at .j) (stands .at .upper) (in-grid .1) .pairs)
 

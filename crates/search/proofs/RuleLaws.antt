@@ -11,13 +11,18 @@ use borrow.Author.Tests.{eq-eqb, ne-eqb, lt-ltb, le-ltb}
 use lib.Dec.{T, eqb, eqb→eq}
 use lib.IntN.{ℤ}
 use lib.ListN.{length}
+use lib.Pow.{pow-pos}
 use Rattle.relation.specs.Composition.{converse}
 use Rattle.relation.proofs.Tested.{all, all-at}
+use Rattle.relation.proofs.SetLaws.{mark-lt}
+use Rattle.relation.proofs.ExchangeLaws.{converse-lt, converse-twice}
 use Rattle.grid.specs.Cells.{putBoth}
+use Rattle.theory.specs.Fair.{Fair}
 use Rattle.theory.specs.Allen.{allen}
 use Rattle.theory.specs.Line.{pairOf, joins, occurs}
-use Rattle.takes.specs.Steps.{Fair}
-use Rattle.takes.proofs.StepsLaws.{put-fair}
+use Rattle.theory.proofs.AllenLaws.{lawful}
+use Rattle.theory.proofs.FairLaws.{put-fair}
+use Rattle.theory.proofs.MeetLaws.{sub-top}
 use Rattle.theory.specs.Quick.{Out, dead, going, Ended, contradiction, goOn, run}
 use Rattle.theory.specs.Search.{Pair, Tried, emptied, closed, Found, placed, none, gaveUp, orNext, turnOf, relationsFrom, row, rows, pairsFrom}
 use Rattle.placing.specs.Settling.{settles, Settled}
@@ -131,8 +136,11 @@ abbrev gridOf : Out → List ℕ
 gridOf dead = []
 gridOf (going g q) = g
 
-pub cut-fair : (n i j r v : ℕ) (g h q q' : List ℕ) → Fair n g → i < n → j < n → (i ≡ j → ⊥) → r < 13 → going h q ≡ going (putBoth converse n g i j v) q' → v ≡ 2 ^ r → Fair n h
-cut-fair n i j r v g h q q' F hi hj ne hr e m = subst (Fair n) (sym (ap gridOf e ∙ ap (putBoth converse n g i j) m)) (put-fair n i j r g F hi hj ne hr)
+pub cut-fair : (n i j r v : ℕ) (g h q q' : List ℕ) → Fair allen n g → i < n → j < n → (i ≡ j → ⊥) → r < 13 → going h q ≡ going (putBoth converse n g i j v) q' → v ≡ 2 ^ r → Fair allen n h
+cut-fair n i j r v g h q q' F hi hj ne hr e m =
+    subst (Fair allen n) (sym (ap gridOf e ∙ ap (putBoth converse n g i j) m))
+    (put-fair allen lawful n g F i j hi hj ne (2 ^ r) (sub-top (2 ^ r) (omega (arith, mark-lt r hr))) (sub-top (converse (2 ^ r)) (omega (arith, converse-lt (2 ^ r))))
+    (converse-twice (2 ^ r) (mark-lt r hr)) (λ z. omega (arith, pow-pos r, z)))
 
 -- ---- past the last cell
 

@@ -23,7 +23,8 @@ use Rattle.theory.specs.Line.{allPairs, rowsTo}
 use Rattle.theory.specs.Quick as quick
 use Rattle.theory.specs.Search.{Pair, closed, Found, placed, none, gaveUp, row, rows, pairsFrom, searchFrom}
 use Rattle.theory.proofs.AllenLaws.{lawful}
-use Rattle.theory.proofs.GivenLaws.{fine, full}
+use Rattle.theory.proofs.GivenLaws.{fair}
+use Rattle.theory.proofs.FairLaws.{good-fair}
 use Rattle.theory.proofs.QuickRight.{start}
 use Rattle.theory.proofs.SettledLaws.{Right, LeavesGood, run-good}
 use Rattle.theory.proofs.TakeLaws.{Bounded}
@@ -38,7 +39,7 @@ use Rattle.search.specs.Rule.{enough, thereAt, triedBy, tryAt, searchAt,
 use Rattle.search.specs.Answers.{saidOf, saidBy, roomBy, NoLater, FirstPlacing, Meant}
 use Rattle.search.specs.declared.PlaceAnswer.{PlaceAnswer}
 use Rattle.search.specs.declared.PlaceAnswer.the-variants.{Placed, None, GaveUp, Refused}
-use Rattle.search.proofs.TryRight.{meets-uses, uses-meets, Upper, Whole, Ready, good-fine, searchable}
+use Rattle.search.proofs.TryRight.{meets-uses, uses-meets, Upper, Whole, Ready, searchable}
 
 -- ---- the cells in order are all cells above the diagonal
 
@@ -186,12 +187,12 @@ module _ (n : ℕ) (g : List ℕ) (a : Accepted n g) where
           let c : Closing allen n (cell n g) (cell n h) = subst (Right allen n g) q (rule-right n g a enough) in
           let G =
           subst (LeavesGood allen n g) (sym (rule-run n enough g e) ∙ q)
-          (run-good allen lawful n (a .few) g enough 0 g (allPairs n) (start allen lawful n g (fine n g a) (full n g a e))) in
+          (run-good allen lawful n (a .few) g enough 0 g (allPairs n) (start allen lawful n g (fair n g a e))) in
           record {
             closing = c;
             ready =
                 record {
-                  whole = record { fine = good-fine n g h (a .few) G; full = G .full; closed = c .closed };
+                  whole = record { fair = good-fair allen lawful n g h (a .few) G; closed = c .closed };
                   decided = λ p o. inl (pairs-have n (p .0) (p .1) (o .0) (o .1));
                 };
           }

@@ -3,7 +3,7 @@ use mathlib.Core.Path.{_≡_, refl, sym, ap, subst, _∙_}
 use mathlib.Core.Bool.{true}
 use mathlib.Core.Logic.{_⊎_, inl, inr, ⊎-elim}
 use mathlib.Core.List.{List, [], _∷_}
-use Prim.Native.Nat.{ℕ, _*_, _^_, _≤_, _<_}
+use Prim.Native.Nat.{ℕ, _*_, _^_, _<_}
 use native.Mathlib.Decide.{ℕ-discrete, decLt}
 use native.Mathlib.Omega.{arith}
 use lib.Bits.{bitAnd, and-self}
@@ -24,6 +24,7 @@ use Rattle.grid.specs.Cells.{cell, putBoth}
 use Rattle.grid.proofs.CellLaws.{putBoth-same, cell-both-here, cell-both-mirror, cell-both-other}
 use Rattle.theory.specs.Allen.{allen}
 use Rattle.theory.specs.Closing.{Closed, Closing, Within}
+use Rattle.theory.specs.Fair.{Fair}
 use Rattle.theory.specs.Line.{pairOf}
 use Rattle.theory.specs.Quick as quick
 use Rattle.theory.specs.Search.{Pair, emptied, closed}
@@ -31,9 +32,9 @@ use Rattle.theory.proofs.AllenLaws.{lawful, eq-lawful, sized, top-lt}
 use Rattle.theory.proofs.ClosingLaws.{sub-trans}
 use Rattle.theory.proofs.GivenLaws.{fine}
 use Rattle.theory.proofs.KeepLaws.{Good}
+use Rattle.theory.proofs.FairLaws.{good-fair}
 use Rattle.theory.proofs.LineLaws.{pair-ok}
 use Rattle.theory.proofs.SettledLaws.{Right, LeavesGood, run-good}
-use Rattle.theory.proofs.QuickRight.{Fine, Full}
 use Rattle.theory.proofs.TryLaws.{try-nothing, cut-inside, resting, try-right, try-ends}
 use Rattle.theory.proofs.PlacedLaws.{member-only, mark-inside, inside-mark, only-mark, Uses, uses-more, closing-uses, empty-unused}
 use Rattle.theory.proofs.SearchLaws.{Searchable}
@@ -65,8 +66,7 @@ Single n p g = (r : ℕ) × (r < 13) × (cell n g (p .0) (p .1) ≡ 2 ^ r)
 
 -- closed, without empty cells
 pub record Whole (n : ℕ) (g : List ℕ) : Type 0 where
-  pub fine : Fine allen n g
-  pub full : Full n g
+  pub fair : Fair allen n g
   pub closed : Closed allen n (cell n g)
 
 -- and each cell is decided or among those of ps
@@ -79,26 +79,25 @@ among-some : {q : Pair} {ps : List Pair} → Among q ps → 0 < length ps
 among-some here = omega arith
 among-some (there w) = omega (arith, among-some w)
 
--- what a run keeps, as a grid that is searched
-pub good-fine : (n : ℕ) (g₀ g : List ℕ) → n ≤ 32 → Good allen n g₀ g → Fine allen n g
-good-fine n g₀ g few G = record { few = few; fits = G .fits; mirrored = G .reached .mirrored; diagonal = G .diagonal; topped = G .topped }
-
 -- the grid that the code holds
+pub searched-fair : (n : ℕ) (g : List ℕ) → Searched n g → Fair allen n g
+searched-fair n g S = record { fine = fine n g (S .accepted); full = S .full }
+
 pub searched-whole : (n : ℕ) (g : List ℕ) → Searched n g → Whole n g
-searched-whole n g S = record { fine = fine n g (S .accepted); full = S .full; closed = S .closed }
+searched-whole n g S = record { fair = searched-fair n g S; closed = S .closed }
 
 pub whole-searched : (n : ℕ) (g : List ℕ) → Whole n g → length g ≡ n * n → Searched n g
 whole-searched n g W long =
     record {
       accepted =
           record {
-            few = W .fine .few;
+            few = W .fair .fine .few;
             long = long;
-            small = λ i j hi hj. omega (arith, top-lt (cell n g i j) (W .fine .topped i j hi hj));
-            diagonal = W .fine .diagonal;
-            mirrored = W .fine .mirrored;
+            small = λ i j hi hj. omega (arith, top-lt (cell n g i j) (W .fair .fine .topped i j hi hj));
+            diagonal = W .fair .fine .diagonal;
+            mirrored = W .fair .fine .mirrored;
           };
-      full = W .full;
+      full = W .fair .full;
       closed = W .closed;
     }
 
@@ -133,10 +132,10 @@ module _ (n : ℕ) (p : Pair) (r : ℕ) (g : List ℕ) (ok : Upper n p) (lt : r 
   some z = omega (arith, pow-pos r)
 
   within : Within allen n (cell n cut) (cell n g)
-  within = cut-inside allen lawful n g (W .fine) (p .0) (p .1) hi (ok .1) apart (2 ^ r) in-cell back
+  within = cut-inside allen lawful n g (W .fair) (p .0) (p .1) hi (ok .1) apart (2 ^ r) in-cell back
 
   here-cut : cell n cut (p .0) (p .1) ≡ 2 ^ r
-  here-cut = cell-both-here converse n g (W .fine .fits) (p .0) (p .1) (2 ^ r) hi (ok .1) apart
+  here-cut = cell-both-here converse n g (W .fair .fine .fits) (p .0) (p .1) (2 ^ r) hi (ok .1) apart
 
   -- what a try leaves
   record Left (g' : List ℕ) : Type 0 where
@@ -155,11 +154,11 @@ module _ (n : ℕ) (p : Pair) (r : ℕ) (g : List ℕ) (ok : Upper n p) (lt : r 
           (record {
             closing =
                 subst (Right allen n cut) q
-                (try-right allen lawful n g (W .fine) (p .0) (p .1) hi (ok .1) apart (2 ^ r) in-cell back (W .full) some (W .closed) eq-lawful enough);
+                (try-right allen lawful n g (W .fair) (p .0) (p .1) hi (ok .1) apart (2 ^ r) in-cell back some (W .closed) eq-lawful enough);
             good =
                 subst (LeavesGood allen n cut) q
-                (run-good allen lawful n (W .fine .few) cut enough 0 cut (pairOf (p .0) (p .1) ∷ [])
-                (resting allen lawful n g (W .fine) (p .0) (p .1) hi (ok .1) apart (2 ^ r) in-cell back (W .full) some (W .closed)));
+                (run-good allen lawful n (W .fair .fine .few) cut enough 0 cut (pairOf (p .0) (p .1) ∷ [])
+                (resting allen lawful n g (W .fair) (p .0) (p .1) hi (ok .1) apart (2 ^ r) in-cell back some (W .closed)));
           })
       go (quick.paused t h) q z = absurd (let y : _≡_ {A = ℕ} 0 1 = cc in omega arith)
 
@@ -170,11 +169,11 @@ module _ (n : ℕ) (p : Pair) (r : ℕ) (g : List ℕ) (ok : Upper n p) (lt : r 
       go : (e : quick.Ended) → quick.run allen n enough 0 cut (pairOf (p .0) (p .1) ∷ []) ≡ e → triedBy e ≡ emptied → Closing allen n (cell n cut) (λ i j. 0)
       go (quick.contradiction t) q z =
           subst (Right allen n cut) q
-          (try-right allen lawful n g (W .fine) (p .0) (p .1) hi (ok .1) apart (2 ^ r) in-cell back (W .full) some (W .closed) eq-lawful enough)
+          (try-right allen lawful n g (W .fair) (p .0) (p .1) hi (ok .1) apart (2 ^ r) in-cell back some (W .closed) eq-lawful enough)
       go (quick.closed t h) q z = absurd (let y : _≡_ {A = ℕ} 0 1 = cc in omega arith)
       go (quick.paused t h) q z =
           absurd
-          (try-ends allen lawful n g (W .fine) (p .0) (p .1) hi (ok .1) apart (2 ^ r) in-cell back (W .full) some (W .closed) ones sized t h q)
+          (try-ends allen lawful n g (W .fair) (p .0) (p .1) hi (ok .1) apart (2 ^ r) in-cell back some (W .closed) ones sized t h q)
 
   -- a placing with relation r for the pair uses the cut grid too
   uses-cut : (P : ℕ → Event) → Uses n P (cell n g) → relOf (P (p .0)) (P (p .1)) ≡ r → Uses n P (cell n cut)
@@ -185,11 +184,11 @@ module _ (n : ℕ) (p : Pair) (r : ℕ) (g : List ℕ) (ok : Upper n p) (lt : r 
 
       that : a ≡ p .1 → b ≡ p .0 → T (member (relOf (P a) (P b)) (cell n cut a b))
       that q w =
-          rw (q, w, cell-both-mirror converse n g (W .fine .fits) (p .0) (p .1) (2 ^ r) hi (ok .1), relOf-back (P (p .0)) (P (p .1)), e, converse-mark r lt)
+          rw (q, w, cell-both-mirror converse n g (W .fair .fine .fits) (p .0) (p .1) (2 ^ r) hi (ok .1), relOf-back (P (p .0)) (P (p .1)), e, converse-mark r lt)
           (inside-mark (exchanged r) (2 ^ exchanged r) (exchanged-lt r lt) (and-self (2 ^ exchanged r)))
 
       kept : ((a ≡ p .0) × (b ≡ p .1) → ⊥) → ((a ≡ p .1) × (b ≡ p .0) → ⊥) → T (member (relOf (P a) (P b)) (cell n cut a b))
-      kept q w = rw (cell-both-other converse n g (W .fine .fits) (p .0) (p .1) (2 ^ r) hi (ok .1) a b hb q w) (u a b ha hb)
+      kept q w = rw (cell-both-other converse n g (W .fair .fine .fits) (p .0) (p .1) (2 ^ r) hi (ok .1) a b hb q w) (u a b ha hb)
 
       last : ((a ≡ p .0) × (b ≡ p .1) → ⊥) → Dec (a ≡ p .1) → Dec (b ≡ p .0) → T (member (relOf (P a) (P b)) (cell n cut a b))
       last q (yes v) (yes w) = that v w
@@ -228,7 +227,7 @@ module _ (n : ℕ) (p : Pair) (r : ℕ) (g : List ℕ) (ok : Upper n p) (lt : r 
   pub try-whole : (g' : List ℕ) → tryAt n p r g ≡ closed g' → Whole n g'
   try-whole g' q =
       let l = left g' q in
-      record { fine = good-fine n cut g' (W .fine .few) (l .good); full = l .good .full; closed = l .closing .closed }
+      record { fair = good-fair allen lawful n cut g' (W .fair .fine .few) (l .good); closed = l .closing .closed }
 
   pub try-ready : (ps : List Pair) → ((q : Pair) → Upper n q → Among q (p ∷ ps) ⊎ Single n q g) → (g' : List ℕ) → tryAt n p r g ≡ closed g' → Ready n ps g'
   try-ready ps before g' q = record { whole = try-whole g' q; decided = decided }
@@ -263,16 +262,16 @@ module _ (n : ℕ) (g : List ℕ) (R : Ready n [] g) where
   ready-scenario =
       record {
         single = λ i j hi hj. each i j hi hj (decLt i j) (decLt j i);
-        diagonal = R .whole .fine .diagonal;
-        mirrored = R .whole .fine .mirrored;
+        diagonal = R .whole .fair .fine .diagonal;
+        mirrored = R .whole .fair .fine .mirrored;
       }
     where
       each : (i j : ℕ) → i < n → j < n → Dec (i < j) → Dec (j < i) → (r : ℕ) × (r < 13) × (cell n g i j ≡ 2 ^ r)
       each i j hi hj (yes l) d = single i j l hj
       each i j hi hj (no l) (yes m) =
           let w = single j i m hi in
-          (exchanged (w .0), exchanged-lt (w .0) (w .1), R .whole .fine .mirrored j i hj hi ∙ ap converse (w .2) ∙ converse-mark (w .0) (w .1))
-      each i j hi hj (no l) (no m) = let e : j ≡ i = omega arith in (12, lit< tt, ap (cell n g i) e ∙ R .whole .fine .diagonal i hi)
+          (exchanged (w .0), exchanged-lt (w .0) (w .1), R .whole .fair .fine .mirrored j i hj hi ∙ ap converse (w .2) ∙ converse-mark (w .0) (w .1))
+      each i j hi hj (no l) (no m) = let e : j ≡ i = omega arith in (12, lit< tt, ap (cell n g i) e ∙ R .whole .fair .fine .diagonal i hi)
 
 -- ---- all the laws
 

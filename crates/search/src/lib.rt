@@ -4,11 +4,12 @@ ghost use Prim.Native.Nat.{_*_, _≤_, _<_};
 ghost use lib.ListN.{length, take};
 ghost use Rattle.grid.specs.Cells.{Held};
 ghost use Rattle.grid.specs.Accepted.{Accepted, judgedNumber};
+ghost use Rattle.theory.specs.Fair.{Fair};
 ghost use Rattle.theory.specs.Allen.{allen};
 ghost use Rattle.theory.specs.Line.{allPairs};
 ghost use Rattle.theory.specs.Quick.{run};
 ghost use Rattle.takes.specs.Waiting.{Idle};
-ghost use Rattle.takes.specs.Steps.{Fair, ended};
+ghost use Rattle.takes.specs.Steps.{ended};
 ghost use Rattle.search.specs.Rule.{enough, triedBy, tryAt, searchOf};
 ghost use Rattle.search.specs.Answers.{saidOf, searchRefusal, Looks};
 ghost use Rattle.search.specs.Steps.{saidWith, Shows, Settles, Answers, Searched, Stands, Steps, Passes, goesOn, after};
@@ -116,7 +117,7 @@ fn attempt(
     j: usize,
     r: usize,
 ) -> End
-    requires { ⌜ Idle n (now ring) (now flag) × Fair n (now g) × (i < n) × (j < n) × (i ≡ j → ⊥) × (r < 13) ⌝ }
+    requires { ⌜ Idle n (now ring) (now flag) × Fair allen n (now g) × (i < n) × (j < n) × (i ≡ j → ⊥) × (r < 13) ⌝ }
     ensures tried { λ e. ⌜ triedBy (ended e (now (g .exit))) ≡ tryAt n (i, j) r (now (g .entry)) ⌝ }
     ensures idle { λ e. ⌜ Idle n (now (ring .exit)) (now (flag .exit)) ⌝ }
 {
@@ -136,7 +137,7 @@ fn attempt_in(
     j: usize,
     r: usize,
 ) -> End
-    requires { ⌜ Idle n (now ring) (now flag) × (length (now g) ≡ n * n) × Fair n (now g) × Held n (now cut) × (i < n) × (j < n) × (i ≡ j → ⊥) × (r < 13) ⌝ }
+    requires { ⌜ Idle n (now ring) (now flag) × (length (now g) ≡ n * n) × Fair allen n (now g) × Held n (now cut) × (i < n) × (j < n) × (i ≡ j → ⊥) × (r < 13) ⌝ }
     ensures tried { λ e. ⌜ triedBy (ended e (take (n * n) (now (cut .exit)))) ≡ tryAt n (i, j) r (now (g .entry)) ⌝ }
     ensures idle { λ e. ⌜ Idle n (now (ring .exit)) (now (flag .exit)) ⌝ }
 {
@@ -205,7 +206,7 @@ fn settled(g: &[u16], n: usize, tries: u32, room: &mut [i32]) -> Looked
 
 // Closes a grid from the list of all pairs.
 fn close_all(ring: &mut [u16; 1024], flag: &mut [u8; 1024], g: &mut [u16], n: usize) -> End
-    requires { ⌜ Idle n (now ring) (now flag) × Fair n (now g) ⌝ }
+    requires { ⌜ Idle n (now ring) (now flag) × Fair allen n (now g) ⌝ }
     ensures closed { λ e. ⌜ ended e (now (g .exit)) ≡ run allen n enough 0 (now (g .entry)) (allPairs n) ⌝ }
     ensures idle { λ e. ⌜ Idle n (now (ring .exit)) (now (flag .exit)) ⌝ }
 {
@@ -221,7 +222,7 @@ fn close_copy(
     work: &mut [u16],
     n: usize,
 ) -> End
-    requires { ⌜ Idle n (now ring) (now flag) × (length (now g) ≡ n * n) × Fair n (now g) × Held n (now work) ⌝ }
+    requires { ⌜ Idle n (now ring) (now flag) × (length (now g) ≡ n * n) × Fair allen n (now g) × Held n (now work) ⌝ }
     ensures closed { λ e. ⌜ triedBy (ended e (take (n * n) (now (work .exit)))) ≡ triedBy (run allen n enough 0 (now (g .entry)) (allPairs n)) ⌝ }
     ensures idle { λ e. ⌜ Idle n (now (ring .exit)) (now (flag .exit)) ⌝ }
 {

@@ -1,86 +1,30 @@
 -- From the code's answer to the step that it shows. Assumes nothing.
 use mathlib.Core.Path.{_≡_, refl, _∙_, sym, ap, subst}
 use mathlib.Core.List.{List}
-use Prim.Native.Nat.{ℕ, zero, suc, _+_, _*_, _/_, _%_, _^_, _≤_, _<_}
+use Prim.Native.Nat.{ℕ, zero, suc, _+_, _*_, _/_, _%_, _≤_, _<_}
 use native.Mathlib.Omega.{arith}
 use native.Mathlib.Decide.{ℕ-discrete}
 use borrow.Author.Tests.{eq-eqb, ne-eqb}
-use lib.Bits.{bitAnd, and-mask}
-use Rattle.relation.specs.Composition.{converse, compose}
-use mathlib.Core.Bool.{false}
-use Rattle.grid.specs.Cells.{cell, putBoth, someEmpty}
-use Rattle.grid.specs.Accepted.{Accepted}
+use Rattle.relation.specs.Composition.{converse}
+use Rattle.grid.specs.Cells.{cell, putBoth}
+use Rattle.theory.specs.Fair.{Fair}
 use Rattle.theory.specs.Allen.{allen}
 use Rattle.theory.specs.Line.{joins, pairOf}
-use Rattle.relation.proofs.Laws.{compose-all-left, compose-all-right}
 use Rattle.theory.specs.Quick.{Out, dead, going, cutTo, shrunk, cut, turns, paused, closed}
 use Rattle.theory.specs.Cuts.{fromOf, toOf, cutAt}
 use Rattle.theory.proofs.QuickLaws.{shrunk-dead, shrunk-written}
 use Rattle.theory.proofs.StepLaws.{turn-still, left-all, left-still, rest, rest-paused, rest-closed}
 use Rattle.theory.proofs.CutsLaws.{first-from, first-via, first-to, second-from, second-via, second-to, cut-skip-i, cut-made, cut-at-still, cuts-going, turned-cut, turned-still, turned-less}
-use Rattle.theory.specs.Calculus.{Sub}
-use Rattle.theory.proofs.ClosingLaws.{IsPut, put-cases, put-mirrored, reached-start}
-use Rattle.theory.proofs.KeepLaws.{Good, put-both}
-use Rattle.theory.proofs.MeetLaws.{sub-top}
-use Rattle.relation.proofs.SetLaws.{mark-lt}
-use Rattle.relation.proofs.ExchangeLaws.{converse-lt, converse-twice}
-use Rattle.grid.proofs.CellLaws.{putBoth-length}
-use lib.Pow.{pow-pos}
-use Rattle.theory.proofs.AllenLaws.{lawful}
-use Rattle.theory.proofs.GivenLaws.{fine, full}
+use Rattle.theory.proofs.AllenLaws.{lawful, past-first, past-second}
+use Rattle.theory.proofs.FairLaws.{fair-good}
 use Rattle.takes.specs.Waiting.{queueOf}
-use Rattle.takes.specs.Steps.{seen, Sound, Steps, Fair, FairIf, Quiet, Cuts, Passes, Finds, Waits, waitingIn}
+use Rattle.takes.specs.Steps.{seen, Sound, Steps, FairIf, Quiet, Cuts, Passes, Finds, Waits, waitingIn}
 use Rattle.takes.specs.declared.Line.{Line}
 use Rattle.takes.specs.declared.Cut.{Cut}
 use Rattle.takes.specs.declared.Cut.the-variants.{Dead, Going}
 
--- what closing keeps, as the theory has it
-pub fair-good : (n : ℕ) (g : List ℕ) → Fair n g → Good allen n g g
-fair-good n g F =
-    record { fits = F .fits; reached = reached-start allen lawful n (cell n g) (F .mirrored); diagonal = F .diagonal; topped = F .topped; full = F .full }
-
-pub good-fair : (n : ℕ) (g₀ g : List ℕ) → n ≤ 32 → Good allen n g₀ g → Fair n g
-good-fair n g₀ g few G =
-    record { few = few; fits = G .fits; mirrored = G .reached .mirrored; diagonal = G .diagonal; topped = G .topped; full = G .full }
-
-pub fair-start : (n : ℕ) (g : List ℕ) → Accepted n g → someEmpty g ≡ false → Fair n g
-fair-start n g a e =
-    let f = fine n g a in
-    record { few = f .few; fits = f .fits; mirrored = f .mirrored; diagonal = f .diagonal; topped = f .topped; full = full n g a e }
-
--- one cell and its mirror cut to one relation
-pub put-fair : (n i j r : ℕ) (g : List ℕ) → Fair n g → i < n → j < n → (i ≡ j → ⊥) → r < 13 → Fair n (putBoth converse n g i j (2 ^ r))
-put-fair n i j r g F hi hj ne hr =
-    record {
-      few = F .few;
-      fits = omega (arith, putBoth-length converse n g i j (2 ^ r), F .fits);
-      mirrored = put-mirrored allen lawful n (cell n g) (cell n h) i j (2 ^ r) is (F .mirrored) back;
-      diagonal = λ a ha. is .rest a a ha ha (λ w. ne (sym (w .0) ∙ w .1)) (λ w. ne (sym (w .1) ∙ w .0)) ∙ F .diagonal a ha;
-      topped = put-cases allen lawful n (cell n g) (cell n h) i j (2 ^ r) is (λ a b x. Sub allen x 8191) (sub-top (2 ^ r) (omega (arith, small))) (sub-top (converse (2 ^ r)) (omega (arith, converse-lt (2 ^ r)))) (λ a b ha hb p q. F .topped a b ha hb);
-      full = put-cases allen lawful n (cell n g) (cell n h) i j (2 ^ r) is (λ a b x. x ≡ 0 → ⊥) some (λ z. some (sym back ∙ ap converse z ∙ lawful .conv-zero)) (λ a b ha hb p q. F .full a b ha hb);
-    }
-  where
-    h : List ℕ
-    h = putBoth converse n g i j (2 ^ r)
-
-    is : IsPut allen n (cell n g) (cell n (putBoth converse n g i j (2 ^ r))) i j (2 ^ r)
-    is = put-both allen n g (F .fits) i j (2 ^ r) hi hj ne
-
-    small : 2 ^ r < 8192
-    small = mark-lt r hr
-
-    back : converse (converse (2 ^ r)) ≡ 2 ^ r
-    back = converse-twice (2 ^ r) small
-
-    some : 2 ^ r ≡ 0 → ⊥
-    some z = omega (arith, pow-pos r, z)
-
--- what is left of (a, b), from the cells read
-pub left-is : (n a m b : ℕ) (g : List ℕ) (ab am mb y : ℕ) → ab ≡ cell n g a b → am ≡ cell n g a m → mb ≡ cell n g m b → y ≡ compose am mb → bitAnd ab y ≡ cutTo allen (cell n g) a m b
-left-is n a m b g ab am mb y e₁ e₂ e₃ e₄ = rw (e₄, e₁, e₂, e₃) refl
-
 -- the two cuts at k, from what is left in its row
-module _ (n i j k : ℕ) (g : List ℕ) (F : Fair n g) (hi : i < n) (hj : j < n) (hk : k < n) (x y : ℕ) where
+module _ (n i j k : ℕ) (g : List ℕ) (F : Fair allen n g) (hi : i < n) (hj : j < n) (hk : k < n) (x y : ℕ) where
   same-place : k * 2 / 2 ≡ k
   same-place = omega arith
 
@@ -92,13 +36,13 @@ module _ (n i j k : ℕ) (g : List ℕ) (F : Fair n g) (hi : i < n) (hj : j < n)
         go (yes u) = cut-skip-i allen n i j (k * 2) g q (same-place ∙ u)
         go (no u) =
             cut-at-still allen n i j (k * 2) g q
-            (rw (first-from i j k, first-via i j k, first-to i j k) (turned-still allen lawful n i j k hi hj hk g g (fair-good n g F) u (sym left ∙ e ∙ read)))
+            (rw (first-from i j k, first-via i j k, first-to i j k) (turned-still allen lawful n i j k hi hj hk g g (fair-good allen lawful n g F) u (sym left ∙ e ∙ read)))
 
     pub first-cuts : (x ≡ y → ⊥) → (s : ℕ) → s ≡ converse x → Cuts n i j g (k * 2) s
     first-cuts ne s t =
         record {
-          left = λ u. rw (first-from i j k, first-via i j k, first-to i j k) (t ∙ ap converse left ∙ turned-cut allen lawful n i j k hi hj hk g g (fair-good n g F) (λ z. u (same-place ∙ z)));
-          less = λ u. rw (first-from i j k, first-to i j k) (λ z. turned-less allen lawful n i j k hi hj hk g g (fair-good n g F) (λ m. u (same-place ∙ m)) (λ m. ne (left ∙ m ∙ sym read)) (sym (t ∙ ap converse left ∙ turned-cut allen lawful n i j k hi hj hk g g (fair-good n g F) (λ m. u (same-place ∙ m))) ∙ z));
+          left = λ u. rw (first-from i j k, first-via i j k, first-to i j k) (t ∙ ap converse left ∙ turned-cut allen lawful n i j k hi hj hk g g (fair-good allen lawful n g F) (λ z. u (same-place ∙ z)));
+          less = λ u. rw (first-from i j k, first-to i j k) (λ z. turned-less allen lawful n i j k hi hj hk g g (fair-good allen lawful n g F) (λ m. u (same-place ∙ m)) (λ m. ne (left ∙ m ∙ sym read)) (sym (t ∙ ap converse left ∙ turned-cut allen lawful n i j k hi hj hk g g (fair-good allen lawful n g F) (λ m. u (same-place ∙ m))) ∙ z));
         }
 
   module _ (left : x ≡ cutTo allen (cell n g) k i j) (read : y ≡ cell n g k j) where
@@ -124,16 +68,12 @@ module _ (n i j : ℕ) (g : List ℕ) (c : ℕ) where
       record { passes = subst (Passes n i j g c) e p; cuts = λ l. absurd (omega arith) }
 
 -- a pair of which nothing is said: its take changes nothing
-module _ (n i j : ℕ) (g : List ℕ) (F : Fair n g) (hi : i < n) (hj : j < n) (all : cell n g i j ≡ 8191) where
-  small : (a b : ℕ) → a < n → b < n → cell n g a b < 8192
-  small a b ha hb = let e = sym (F .topped a b ha hb) ∙ and-mask (cell n g a b) 13 in omega (arith, e)
-
+module _ (n i j : ℕ) (g : List ℕ) (F : Fair allen n g) (hi : i < n) (hj : j < n) (all : cell n g i j ≡ 8191) where
   pub all-quiet : (q : List ℕ) → turns allen n i j n 0 g q ≡ going g q
   all-quiet q =
       sym (left-all allen n i j g q)
-      ∙ left-still allen n i j g q (λ k hk. turn-still allen n i j k g q
-      (ap (λ (x : ℕ). bitAnd (cell n g i k) (compose x (cell n g j k))) all ∙ ap (bitAnd (cell n g i k)) (compose-all-left (cell n g j k) (F .full j k hj hk) (small j k hj hk)) ∙ F .topped i k hi hk)
-      (ap (λ (x : ℕ). bitAnd (cell n g k j) (compose (cell n g k i) x)) all ∙ ap (bitAnd (cell n g k j)) (compose-all-right (cell n g k i) (F .full k i hk hi) (small k i hk hi)) ∙ F .topped k j hk hj)) n 0 (omega arith)
+      ∙ left-still allen n i j g q
+      (λ k hk. turn-still allen n i j k g q (past-first n g F i j k hi hj hk all) (past-second n g F k i j hk hi hj all)) n 0 (omega arith)
 
 -- from c on, which is the second cut at c / 2 where c is odd
 module _ (n i j : ℕ) (g : List ℕ) (c r set : ℕ) (f : Finds n i j g ((c / 2 + c % 2) * 2) r set) where
@@ -190,7 +130,7 @@ module _ (n : ℕ) (o : Out) (r : Cut) (g ring flag : List ℕ) (s : Steps n o r
     pub is-sound : Waits n ring flag l
     is-sound = subst (λ (x : Cut). Sound n x ring flag) e (s .sound)
 
-pub going-fair : (n : ℕ) (r : Cut) (g : List ℕ) (l : Line) → r ≡ Going l → FairIf n r g → Fair n g
+pub going-fair : (n : ℕ) (r : Cut) (g : List ℕ) (l : Line) → r ≡ Going l → FairIf n r g → Fair allen n g
 going-fair n r g l e f = subst (λ (x : Cut). FairIf n x g) e f
 
 -- a run at its limit, and one with nothing left to take

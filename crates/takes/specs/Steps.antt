@@ -3,11 +3,10 @@ use mathlib.Core.Path.{_≡_}
 use mathlib.Core.List.{List}
 use Prim.Native.Nat.{ℕ, _*_, _/_, _≤_, _<_}
 use lib.ListN.{length}
-use Rattle.relation.specs.Composition.{converse}
 use Rattle.relation.specs.Packed.{RowsOf}
 use Rattle.relation.specs.declared.Rows.{Rows}
 use Rattle.grid.specs.Cells.{cell}
-use Rattle.theory.specs.Calculus.{Sub}
+use Rattle.theory.specs.Fair.{Fair}
 use Rattle.theory.specs.Allen.{allen}
 use Rattle.theory.specs.Quick.{Out, dead, going, cutTo, Ended, contradiction, closed, paused}
 use Rattle.theory.specs.Cuts.{fromOf, viaOf, toOf, cutAt, cutsFrom}
@@ -39,18 +38,10 @@ pub record Steps (n : ℕ) (o : Out) (r : Cut) (g ring flag : List ℕ) : Type 0
   pub same : seen r g ring ≡ o
   pub sound : Sound n r ring flag
 
--- a grid in the midst of closing: mirrored, and no cell is empty
-pub record Fair (n : ℕ) (g : List ℕ) : Type 0 where
-  pub few : n ≤ 32
-  pub fits : n * n ≤ length g
-  pub mirrored : (i j : ℕ) → i < n → j < n → cell n g j i ≡ converse (cell n g i j)
-  pub diagonal : (i : ℕ) → i < n → cell n g i i ≡ 4096
-  pub topped : (i j : ℕ) → i < n → j < n → Sub allen (cell n g i j) 8191
-  pub full : (i j : ℕ) → i < n → j < n → cell n g i j ≡ 0 → ⊥
-
+-- while it goes on, the grid is fair
 abbrev pub FairIf : ℕ → Cut → List ℕ → Type 0
 FairIf n Dead g = Unit {0}
-FairIf n (Going l) g = Fair n g
+FairIf n (Going l) g = Fair allen n g
 
 -- the rows of (i, j) and of (j, i)
 pub record Sees (n i j : ℕ) (g : List ℕ) (v w : Rows) : Type 0 where

@@ -4,12 +4,13 @@ ghost use Prim.Native.Nat.{_*_, _≤_, _<_};
 ghost use lib.ListN.{length, replicate};
 ghost use Rattle.relation.specs.Composition.{converse};
 ghost use Rattle.grid.specs.Cells.{putBoth, Held};
+ghost use Rattle.theory.specs.Fair.{Fair};
 ghost use Rattle.theory.specs.Allen.{allen};
 ghost use Rattle.theory.specs.Line.{pairOf, joins};
 ghost use Rattle.theory.specs.Quick.{going, turns, run};
 ghost use Rattle.theory.specs.Cuts.{fromOf, toOf, cutAt};
 ghost use Rattle.takes.specs.Waiting.{IsPair, Left, Idle};
-ghost use Rattle.takes.specs.Steps.{Waits, waitingIn, Steps, Fair, FairIf, Sees, Cuts, Finds, ended};
+ghost use Rattle.takes.specs.Steps.{Waits, waitingIn, Steps, FairIf, Sees, Cuts, Finds, ended};
 use relation::Rows;
 
 // The waiting list: it starts at head in the ring and is len pairs long.
@@ -85,7 +86,7 @@ pub struct Found {
 // The first cut from event k on that changes something in the take of (i, j), or cut 2 * n. Most cuts change nothing, and this only
 // reads. Both cuts at k are made in its own row, the first of them turned round: so the rows of (i, j) and of (j, i) serve for all k.
 fn cut_from(v: Rows, w: Rows, g: &[u16], n: usize, i: usize, j: usize, from: usize) -> Found
-    requires { ⌜ Sees n i j (now g) v w × (i < n) × (j < n) × (from ≤ n) × Fair n (now g) ⌝ }
+    requires { ⌜ Sees n i j (now g) v w × (i < n) × (j < n) × (from ≤ n) × Fair allen n (now g) ⌝ }
     ensures { λ r. ⌜ Finds n i j (now (g .entry)) (from * 2) (r .at) (r .set) ⌝ }
 {
     let mut k = from;
@@ -113,7 +114,7 @@ fn cut_from(v: Rows, w: Rows, g: &[u16], n: usize, i: usize, j: usize, from: usi
 
 // The first cut from c on that changes something in the take of (i, j), or cut 2 * n.
 fn next_cut(v: Rows, w: Rows, g: &[u16], n: usize, i: usize, j: usize, c: usize) -> Found
-    requires { ⌜ Sees n i j (now g) v w × (i < n) × (j < n) × (c ≤ n * 2) × Fair n (now g) ⌝ }
+    requires { ⌜ Sees n i j (now g) v w × (i < n) × (j < n) × (c ≤ n * 2) × Fair allen n (now g) ⌝ }
     ensures { λ r. ⌜ Finds n i j (now (g .entry)) c (r .at) (r .set) ⌝ }
 {
     let k = c / 2;
@@ -179,7 +180,7 @@ fn take_pair(
     i: usize,
     j: usize,
 ) -> Cut
-    requires { ⌜ (i < n) × (j < n) × (i ≡ j → ⊥) × Fair n (now g) × Waits n (now ring) (now flag) l ⌝ }
+    requires { ⌜ (i < n) × (j < n) × (i ≡ j → ⊥) × Fair allen n (now g) × Waits n (now ring) (now flag) l ⌝ }
     ensures steps { λ r. ⌜ Steps n (turns allen n i j n 0 (now (g .entry)) (waitingIn (now (ring .entry)) l)) r (now (g .exit)) (now (ring .exit)) (now (flag .exit)) ⌝ }
     ensures fair { λ r. ⌜ FairIf n r (now (g .exit)) ⌝ }
 {
@@ -246,7 +247,7 @@ pub fn takes(
     l: Line,
     limit: usize,
 ) -> End
-    requires { ⌜ Fair n (now g) × Waits n (now ring) (now flag) l ⌝ }
+    requires { ⌜ Fair allen n (now g) × Waits n (now ring) (now flag) l ⌝ }
     ensures end { λ r. ⌜ ended r (now (g .exit)) ≡ run allen n limit 0 (now (g .entry)) (waitingIn (now (ring .entry)) l) ⌝ }
     ensures idle { λ r. ⌜ Idle n (now (ring .exit)) (now (flag .exit)) ⌝ }
 {

@@ -1,5 +1,6 @@
 -- The thirteen relations keep every law that closing uses. Assumes nothing.
-use mathlib.Core.Path.{_≡_, ap, _∙_}
+use mathlib.Core.Path.{_≡_, refl, ap, _∙_}
+use mathlib.Core.List.{List}
 use Prim.Native.Nat.{ℕ, _<_}
 use native.Mathlib.Omega.{arith}
 use lib.Dec.{lit<}
@@ -8,7 +9,10 @@ use lib.Count.{ones}
 use Rattle.relation.specs.Composition.{converse, compose}
 use Rattle.relation.proofs.SetLaws.{and-inside, inside-and}
 use Rattle.relation.proofs.ExchangeLaws.{converse-none, converse-and}
-use Rattle.relation.proofs.Laws.{compose-lt, compose-mono, compose-converse, compose-none-left, compose-none-right, compose-eq-left, compose-eq-right, eq-inside}
+use Rattle.relation.proofs.Laws.{compose-lt, compose-mono, compose-converse, compose-none-left, compose-none-right, compose-eq-left, compose-eq-right, compose-all-left, compose-all-right, eq-inside}
+use Rattle.grid.specs.Cells.{cell}
+use Rattle.theory.specs.Quick.{cutTo}
+use Rattle.theory.specs.Fair.{Fair}
 use Rattle.theory.specs.Allen.{allen}
 use Rattle.theory.proofs.Lawful.{Lawful, EqLawful}
 use Rattle.theory.proofs.TakeLaws.{Sized}
@@ -45,3 +49,22 @@ eq-lawful =
 -- the members of a set are counted by its ones
 pub sized : Sized allen ones
 sized = record { less = ones-less; most = λ i j a t. ones-most a t }
+
+-- what is left of (a, b), from the cells read
+pub left-is : (n a m b : ℕ) (g : List ℕ) (ab am mb y : ℕ) → ab ≡ cell n g a b → am ≡ cell n g a m → mb ≡ cell n g m b → y ≡ compose am mb → bitAnd ab y ≡ cutTo allen (cell n g) a m b
+left-is n a m b g ab am mb y e₁ e₂ e₃ e₄ = rw (e₄, e₁, e₂, e₃) refl
+
+-- where nothing is said of one half of a route, it leaves its cell as it is
+module _ (n : ℕ) (g : List ℕ) (F : Fair allen n g) (a m b : ℕ) (ha : a < n) (hm : m < n) (hb : b < n) where
+  small : (x y : ℕ) → x < n → y < n → cell n g x y < 8192
+  small x y hx hy = top-lt (cell n g x y) (F .fine .topped x y hx hy)
+
+  pub past-first : cell n g a m ≡ 8191 → cutTo allen (cell n g) a m b ≡ cell n g a b
+  past-first all =
+      ap (λ (x : ℕ). bitAnd (cell n g a b) (compose x (cell n g m b))) all
+      ∙ ap (bitAnd (cell n g a b)) (compose-all-left (cell n g m b) (F .full m b hm hb) (small m b hm hb)) ∙ F .fine .topped a b ha hb
+
+  pub past-second : cell n g m b ≡ 8191 → cutTo allen (cell n g) a m b ≡ cell n g a b
+  past-second all =
+      ap (λ (x : ℕ). bitAnd (cell n g a b) (compose (cell n g a m) x)) all
+      ∙ ap (bitAnd (cell n g a b)) (compose-all-right (cell n g a m) (F .full a m ha hm) (small a m ha hm)) ∙ F .fine .topped a b ha hb

@@ -12,8 +12,8 @@ use Rattle.grid.specs.Cells.{cell, someEmpty}
 use Rattle.grid.specs.Accepted.{Accepted}
 use Rattle.grid.proofs.CellLaws.{place, found}
 use Rattle.grid.proofs.AcceptedLaws.{none-passes}
+use Rattle.theory.specs.Fair.{Fine, Full, Fair}
 use Rattle.theory.specs.Allen.{allen}
-use Rattle.theory.proofs.QuickRight.{Fine, Full}
 use Rattle.theory.proofs.MeetLaws.{sub-top}
 
 pub fine : (n : ℕ) (g : List ℕ) → Accepted n g → Fine allen n g
@@ -28,12 +28,15 @@ fine n g a =
 
 module _ (n : ℕ) (g : List ℕ) (a : Accepted n g) where
   -- no cell is empty
-  pub full : someEmpty g ≡ false → Full n g
+  full : someEmpty g ≡ false → Full n g
   unfolding cell
   full e i j hi hj z =
       let p = place (a .few) hi hj in
       eqb-false (cell n g i j) 0
       (none-passes (length g) (λ p. eqb (getD g p 0) 0) e (i * n + j) (omega (arith, p .inside, a .long))) z
+
+  pub fair : someEmpty g ≡ false → Fair allen n g
+  fair e = record { fine = fine n g a; full = full e }
 
   -- some cell is empty
   pub hole : someEmpty g ≡ true → (i : ℕ) × (j : ℕ) × (i < n) × (j < n) × (cell n g i j ≡ 0)

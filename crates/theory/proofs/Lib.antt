@@ -3,6 +3,7 @@ pub mod ClosingLaws
 pub mod LineLaws
 pub mod QuickLaws
 pub mod KeepLaws
+pub mod FairLaws
 pub mod SettledLaws
 pub mod StartLaws
 pub mod TakeLaws

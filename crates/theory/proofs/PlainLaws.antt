@@ -12,10 +12,12 @@ use Rattle.grid.specs.Cells.{cell, putBoth}
 use Rattle.grid.proofs.CellLaws.{putBoth-length}
 use Rattle.theory.specs.Calculus.{Calculus, Sub}
 use Rattle.theory.specs.Closing.{Closing}
+use Rattle.theory.specs.Fair.{Fair}
 use Rattle.theory.specs.Line.{pairOf, allPairs}
 use Rattle.theory.specs.Sweeps.{Distinct, value, Shrinks, Cuts, none, more, DeadEnd, weight, Progress}
 use Rattle.theory.proofs.ClosingLaws.{IsCut, reached-closed, mirror-cut}
 use Rattle.theory.proofs.KeepLaws.{Good, put-cut, is-cut, good-shrank, good-dead}
+use Rattle.theory.proofs.FairLaws.{fair-good, good-fair}
 use Rattle.theory.proofs.Lawful.{Lawful, EqLawful}
 use Rattle.theory.proofs.LineLaws.{IsPair, pair-number, pair-low, pair-same, pair-swap}
 use Rattle.theory.proofs.SettledLaws.{Via, closed-apart}
@@ -118,6 +120,9 @@ module _ (A : Calculus) (L : Lawful A) (n : ℕ) (g₀ : List ℕ) where
   cuts-good g G none = G
   cuts-good g G (more {g₁} p s) =
       rw (s .is) (good-shrank A L n g₀ g₁ (cuts-good g G p) (s .a) (s .m) (s .b) (s .route .ha) (s .route .hc) (s .route .hb) (s .route .ab) (s .some))
+
+  pub cuts-fair : {g' : List ℕ} → Fair A n g₀ → Cuts A n g₀ g' → Fair A n g'
+  cuts-fair {g'} F p = good-fair A L n g₀ g' (F .fine .few) (cuts-good g₀ (fair-good A L n g₀ F) p)
 
   pub dead-closing : Good A n g₀ g₀ → DeadEnd A n g₀ → Closing A n (cell n g₀) (λ i j. 0)
   dead-closing G d = good-dead A L n g₀ (d .at) (cuts-good g₀ G (d .cuts)) (d .a) (d .m) (d .b) (d .route .ha) (d .route .hc) (d .route .hb) (d .route .ab) (d .empty)

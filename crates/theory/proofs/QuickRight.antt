@@ -4,44 +4,30 @@ use mathlib.Core.List.{List}
 use Prim.Native.Nat.{ℕ, _+_, _*_, _≤_, _<_}
 use native.Mathlib.Omega.{arith}
 use native.Mathlib.Nat.{mul-le-mul-right}
-use lib.ListN.{length}
 use Rattle.grid.specs.Cells.{cell}
-use Rattle.theory.specs.Calculus.{Calculus, Sub}
+use Rattle.theory.specs.Calculus.{Calculus}
 use Rattle.theory.specs.Closing.{Closing}
+use Rattle.theory.specs.Fair.{Fine, Fair}
 use Rattle.theory.specs.Line.{allPairs}
 use Rattle.theory.specs.Quick.{run}
 use Rattle.theory.proofs.ClosingLaws.{reached-start, reached-empty}
-use Rattle.theory.proofs.KeepLaws.{Good}
+use Rattle.theory.proofs.FairLaws.{fair-good}
 use Rattle.theory.proofs.Lawful.{Lawful, EqLawful}
 use Rattle.theory.proofs.SettledLaws.{Resting, Right, run-ok}
 use Rattle.theory.proofs.StartLaws.{settled-start, pairs-all}
 use Rattle.theory.proofs.TakeLaws.{Sized, Bounded, run-bound, store, store-most}
 
--- an accepted grid
-pub record Fine (A : Calculus) (n : ℕ) (g : List ℕ) : Type 0 where
-  pub few : n ≤ 32
-  pub fits : n * n ≤ length g
-  pub mirrored : (i j : ℕ) → i < n → j < n → cell n g j i ≡ A .conv (cell n g i j)
-  pub diagonal : (i : ℕ) → i < n → cell n g i i ≡ A .eq
-  pub topped : (i j : ℕ) → i < n → j < n → Sub A (cell n g i j) (A .top i j)
+module _ (A : Calculus) (L : Lawful A) (n : ℕ) (g : List ℕ) where
+  pub empty-right : Fine A n g → (i j : ℕ) → i < n → j < n → cell n g i j ≡ 0 → Closing A n (cell n g) (λ a b. 0)
+  empty-right F i j hi hj e = reached-empty A L n (cell n g) (cell n g) (reached-start A L n (cell n g) (F .mirrored)) i j hi hj e
 
-abbrev pub Full : ℕ → List ℕ → Type 0
-Full n g = (i j : ℕ) → i < n → j < n → cell n g i j ≡ 0 → ⊥
-
-module _ (A : Calculus) (L : Lawful A) (n : ℕ) (g : List ℕ) (F : Fine A n g) where
-  pub empty-right : (i j : ℕ) → i < n → j < n → cell n g i j ≡ 0 → Closing A n (cell n g) (λ a b. 0)
-  empty-right i j hi hj e = reached-empty A L n (cell n g) (cell n g) (reached-start A L n (cell n g) (F .mirrored)) i j hi hj e
-
-  module _ (full : Full n g) where
-    pub start-good : Good A n g g
-    start-good = record { fits = F .fits; reached = reached-start A L n (cell n g) (F .mirrored); diagonal = F .diagonal; topped = F .topped; full = full }
-
+  module _ (F : Fair A n g) where
     pub start : Resting A n g g (allPairs n)
-    start = record { good = start-good; pairs = pairs-all n (F .few); settled = settled-start A n (F .few) g }
+    start = record { good = fair-good A L n g F; pairs = pairs-all n (F .fine .few); settled = settled-start A n (F .fine .few) g }
 
     -- closed: the largest closed grid inside; contradiction: that grid is empty throughout
     pub quick-right : EqLawful A → (limit : ℕ) → Right A n g (run A n limit 0 g (allPairs n))
-    quick-right E limit = run-ok A L E n (F .few) g limit 0 g (allPairs n) start
+    quick-right E limit = run-ok A L E n (F .fine .few) g limit 0 g (allPairs n) start
 
     -- never more than 13 n (n - 1) / 2 takes, and paused only below that many
     module _ (size : ℕ → ℕ) (S : Sized A size) where
@@ -52,11 +38,11 @@ module _ (A : Calculus) (L : Lawful A) (n : ℕ) (g : List ℕ) (F : Fine A n g)
       unfolding takes-most
       takes-bound limit =
           let e : 0 + limit ≡ limit = omega arith in
-          rw e at (run-bound A L size S n (F .few) g limit 0 g (allPairs n) start (store size n g (allPairs n)) (omega arith))
+          rw e at (run-bound A L size S n (F .fine .few) g limit 0 g (allPairs n) start (store size n g (allPairs n)) (omega arith))
 
       pub takes-most-is : 2 * takes-most + 13 * n ≤ 13 * (n * n)
       unfolding takes-most
-      takes-most-is = store-most A L size S n (F .few) g g start-good
+      takes-most-is = store-most A L size S n (F .fine .few) g g (fair-good A L n g F)
 
       pub takes-always : takes-most ≤ 6448
-      takes-always = omega (arith, takes-most-is, mul-le-mul-right n (F .few), F .few)
+      takes-always = omega (arith, takes-most-is, mul-le-mul-right n (F .fine .few), F .fine .few)

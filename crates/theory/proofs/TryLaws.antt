@@ -1,5 +1,5 @@
 -- Closing again from the one pair that was cut: a closed grid in which a pair was cut, with that pair waiting alone, is settled. Assumes nothing.
-use mathlib.Core.Path.{_≡_, ap, sym, _∙_, subst}
+use mathlib.Core.Path.{_≡_, sym, _∙_, subst}
 use mathlib.Core.Logic.{inl, inr}
 use mathlib.Core.List.{List, [], _∷_}
 use Prim.Native.Nat.{ℕ, suc, _/_, _%_, _≤_, _<_}
@@ -8,20 +8,20 @@ use native.Mathlib.Nat.{mul-le-mul-right}
 use native.Mathlib.Omega.{arith}
 use lib.ListN.{length}
 use Rattle.grid.specs.Cells.{cell, putBoth}
-use Rattle.grid.proofs.CellLaws.{putBoth-length}
 use Rattle.theory.specs.Calculus.{Calculus, Sub}
 use Rattle.theory.specs.Closing.{Closed, Within}
+use Rattle.theory.specs.Fair.{Fair}
 use Rattle.theory.specs.Line.{pairOf, occurs, allPairs}
 use Rattle.theory.specs.Quick.{going, turns, closed, paused, run}
 use Rattle.theory.proofs.Lawful.{Lawful, EqLawful}
-use Rattle.theory.proofs.ClosingLaws.{Mirrored, IsPut, put-cases, put-within, put-mirrored, reached-start, sub-trans}
+use Rattle.theory.proofs.ClosingLaws.{IsPut, put-within, sub-trans}
 use Rattle.theory.proofs.KeepLaws.{put-both}
+use Rattle.theory.proofs.FairLaws.{fair-good, put-fair}
 use Rattle.theory.proofs.LineLaws.{IsPair, occurs-cons-same, occurs-cons-other, occurs-nil, pair-same, pair-swap, pair-ok}
 use Rattle.theory.proofs.SettledLaws.{Settled, Served, Pairs, Resting, Right, run-ok}
 use Rattle.theory.proofs.StartLaws.{waits-all}
 use Rattle.theory.proofs.StepLaws.{turn-still, left-all, left-still, rest-all, rest-going, rest-closed}
 use Rattle.theory.proofs.TakeLaws.{Sized, Bounded, store-most, run-bound}
-use Rattle.theory.proofs.QuickRight.{Fine, Full}
 
 -- a closed grid with one pair waiting is left as it is
 pub try-nothing : (A : Calculus) (n : ℕ) (g : List ℕ) → Closed A n (cell n g) → (p : ℕ) → IsPair n p → (f : ℕ) → run A n (suc f) 0 g (p ∷ []) ≡ closed 1 g
@@ -46,35 +46,26 @@ occurs-most p (x ∷ q) = go (ℕ-discrete p x) (occurs-most p q)
     go (yes e) h = rw (← e) (omega (arith, occurs-cons-same p q))
     go (no ne) h = omega (arith, occurs-cons-other p x q ne)
 
-module _ (A : Calculus) (L : Lawful A) (n : ℕ) (h : List ℕ) (F : Fine A n h) (x y : ℕ) (hx : x < n) (hy : y < n) (ne : x ≡ y → ⊥) (v : ℕ)
+module _ (A : Calculus) (L : Lawful A) (n : ℕ) (h : List ℕ) (F : Fair A n h) (x y : ℕ) (hx : x < n) (hy : y < n) (ne : x ≡ y → ⊥) (v : ℕ)
     (inside : Sub A v (cell n h x y)) (back : A .conv (A .conv v) ≡ v) where
   -- the cell and its mirror cut to v
   abbrev g : List ℕ
   g = putBoth (A .conv) n h x y v
 
   is-put : IsPut A n (cell n h) (cell n g) x y v
-  is-put = put-both A n h (F .fits) x y v hx hy ne
+  is-put = put-both A n h (F .fine .fits) x y v hx hy ne
 
   pub cut-inside : Within A n (cell n g) (cell n h)
-  cut-inside = put-within A L n (cell n h) (cell n g) x y v is-put (F .mirrored) hx hy inside
+  cut-inside = put-within A L n (cell n h) (cell n g) x y v is-put (F .fine .mirrored) hx hy inside
 
-  mirrored : Mirrored A n (cell n g)
-  mirrored = put-mirrored A L n (cell n h) (cell n g) x y v is-put (F .mirrored) back
+  cut-topped : (i j : ℕ) → i < n → j < n → Sub A (cell n g i j) (A .top i j)
+  cut-topped i j hi hj = sub-trans A L (cell n g i j) (cell n h i j) (A .top i j) (cut-inside i j hi hj) (F .fine .topped i j hi hj)
 
-  cut-fine : Fine A n g
-  cut-fine =
-      record {
-        few = F .few;
-        fits = omega (arith, putBoth-length (A .conv) n h x y v, F .fits);
-        mirrored = mirrored;
-        diagonal = λ i hi. is-put .rest i i hi hi (λ w. ne (sym (w .0) ∙ w .1)) (λ w. ne (sym (w .1) ∙ w .0)) ∙ F .diagonal i hi;
-        topped = λ i j hi hj. sub-trans A L (cell n g i j) (cell n h i j) (A .top i j) (cut-inside i j hi hj) (F .topped i j hi hj);
-      }
-
-  module _ (full : Full n h) (nz : v ≡ 0 → ⊥) where
-    cut-full : Full n g
-    cut-full =
-        put-cases A L n (cell n h) (cell n g) x y v is-put (λ a b c. c ≡ 0 → ⊥) nz (λ z. nz (sym back ∙ ap (A .conv) z ∙ L .conv-zero)) (λ a b ha hb p q. full a b ha hb)
+  module _ (nz : v ≡ 0 → ⊥) where
+    cut-fair : Fair A n g
+    cut-fair =
+        put-fair A L n h F x y hx hy ne v (subst (λ (c : ℕ). Sub A c (A .top x y)) (is-put .here) (cut-topped x y hx hy))
+        (subst (λ (c : ℕ). Sub A c (A .top y x)) (is-put .mirror) (cut-topped y x hy hx)) back nz
 
     module _ (cl : Closed A n (cell n h)) where
       settled : Settled A n g (pairOf x y ∷ [])
@@ -99,35 +90,28 @@ module _ (A : Calculus) (L : Lawful A) (n : ℕ) (h : List ℕ) (F : Fine A n h)
       pairs p w = go (ℕ-discrete p (pairOf x y))
         where
           go : Dec (p ≡ pairOf x y) → IsPair n p
-          go (yes e) = rw e (pair-ok n x y (F .few) hx hy ne)
+          go (yes e) = rw e (pair-ok n x y (F .fine .few) hx hy ne)
           go (no np) = absurd (omega (arith, w, occurs-cons-other p (pairOf x y) [] np, occurs-nil p))
 
       pub resting : Resting A n g g (pairOf x y ∷ [])
       resting =
           record {
-            good =
-                record {
-                  fits = cut-fine .fits;
-                  reached = reached-start A L n (cell n g) mirrored;
-                  diagonal = cut-fine .diagonal;
-                  topped = cut-fine .topped;
-                  full = cut-full;
-                };
+            good = fair-good A L n g cut-fair;
             pairs = pairs;
             settled = settled;
           }
 
       -- the run from the pair alone gives the largest closed grid inside the cut one
       pub try-right : EqLawful A → (limit : ℕ) → Right A n g (run A n limit 0 g (pairOf x y ∷ []))
-      try-right E limit = run-ok A L E n (F .few) g limit 0 g (pairOf x y ∷ []) resting
+      try-right E limit = run-ok A L E n (F .fine .few) g limit 0 g (pairOf x y ∷ []) resting
 
       -- and 6,448 takes always suffice
       pub try-ends : (size : ℕ → ℕ) → Sized A size → (t : ℕ) (k : List ℕ) → run A n 6448 0 g (pairOf x y ∷ []) ≡ paused t k → ⊥
       try-ends size S t k e =
-          let w = waits-all n x y (F .few) hx hy ne in
-          let m = store-most A L size S n (F .few) g g (resting .good) in
+          let w = waits-all n x y (F .fine .few) hx hy ne in
+          let m = store-most A L size S n (F .fine .few) g g (resting .good) in
           let l = occurs-most (pairOf x y) (allPairs n) in
           let b : Bounded 6448 6448 (run A n 6448 0 g (pairOf x y ∷ [])) =
-          run-bound A L size S n (F .few) g 6448 0 g (pairOf x y ∷ []) resting 6448 (omega (arith, mul-le-mul-right n (F .few), F .few)) in
+          run-bound A L size S n (F .fine .few) g 6448 0 g (pairOf x y ∷ []) resting 6448 (omega (arith, mul-le-mul-right n (F .fine .few), F .fine .few)) in
           let q : Bounded 6448 6448 (paused t k) = subst (Bounded 6448 6448) e b in
           omega (arith, q .1)

@@ -1,5 +1,6 @@
 pub mod Calculus
 pub mod Closing
+pub mod Fair
 pub mod Line
 pub mod Quick
 pub mod Cuts

@@ -2,8 +2,7 @@
 use mathlib.Core.Path.{_≡_}
 use Prim.Native.Nat.{_-_, _*_, _≤_, _<_}
 use lib.ListN.{length, length-set}
-use Rattle.relation.specs.Filling.{Filled}
-use Rattle.relation.proofs.FillLaws.{filled-more}
+use Rattle.placing.proofs.FillLaws.{Filled, filled-more}
 use Rattle.placing.specs.Settling.{endsBefore}
 use Rattle.placing.specs.Steps.{mostEnds}
 use borrow.Author.Needs.{needs}

@@ -4,8 +4,7 @@ use mathlib.Core.List.{List}
 use mathlib.Core.Logic.{⊎-elim}
 use Prim.Native.Nat.{ℕ, _+_, _-_, _≤_, _<_}
 use lib.ListN.{length, getD, replicate, length-set}
-use Rattle.relation.specs.Filling.{Filled}
-use Rattle.relation.proofs.FillLaws.{filled-more}
+use Rattle.placing.proofs.FillLaws.{Filled, filled-more}
 use Rattle.placing.specs.Settling.{valuesBelow}
 use Rattle.placing.specs.Steps.{mostEnds}
 use Rattle.placing.proofs.GaplessLaws.{values-none, values-le, values-step}

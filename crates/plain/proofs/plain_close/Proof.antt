@@ -16,13 +16,10 @@ enum-known-judged c = search needs
 enum-told : tie.Need-enum-told
 enum-told c = search needs
 
-fill-half-rows-requires : tie.Need-fill-half-rows-requires
-fill-half-rows-requires c κs = search needs
-
 sweep-accepted-requires : tie.Need-sweep-accepted-requires
 sweep-accepted-requires c κs =
-    let e = c .before .before .before .before in
-    (search needs, accepted-grid _ _ (sym (e .before .before .judge .ensures) ∙ ap judgedNumber (e .enum-told .given .1)))
+    let e = c .before in
+    accepted-grid _ _ (sym (e .before .before .judge .ensures) ∙ ap judgedNumber (e .enum-told .given .1))
 
 same-length : tie.Need-same-length
 same-length c = search needs
@@ -35,9 +32,9 @@ same-length-2 c = search needs
 
 returns-2 : tie.Need-returns-2
 returns-2 c =
-    let e = c .before .before .before .before .before .before .before in
+    let e = c .before .before .before .before in
     let z = sym (e .before .before .judge .ensures) ∙ ap judgedNumber (e .enum-told .given .1) in
-    closes _ _ (accepted-grid _ _ z) _ z (c .before .before .sweep-accepted .kept .1 .0) _ (c .before .before .sweep-accepted .ensures)
+    closes _ _ (accepted-grid _ _ z) _ z (c .before .before .sweep-accepted .kept .0) _ (c .before .before .sweep-accepted .ensures)
 
 pub plain-close-spec : {M : Type 1} → statement M
 plain-close-spec =
@@ -46,7 +43,6 @@ plain-close-spec =
     judge-requires
     enum-known-judged
     enum-told
-    fill-half-rows-requires
     sweep-accepted-requires
     same-length
     returns

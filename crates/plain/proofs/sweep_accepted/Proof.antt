@@ -7,7 +7,9 @@ use lib.Count.{ones}
 use lib.ListN.{length, replicate}
 use Rattle.theory.specs.Allen.{allen}
 use Rattle.theory.specs.Sweeps.{Cuts, none, weight}
-use Rattle.theory.proofs.PlainLaws.{dead-then, cuts-trans}
+use Rattle.theory.proofs.AllenLaws.{lawful}
+use Rattle.theory.proofs.GivenLaws.{fair}
+use Rattle.theory.proofs.PlainLaws.{cuts-fair, dead-then, cuts-trans}
 use Rattle.plain.proofs.RouteLaws.{pass-dead, pass-moved, all-still}
 use borrow.Author.Needs.{needs}
 use native.Mathlib.Omega.{arith}
@@ -15,10 +17,10 @@ use Rattle.plain.proofs.sweep_accepted.Statement.{statement}
 use Rattle.plain.proofs.sweep_accepted.Tie as tie
 
 abbrev Inv-loop : tie.InvT-loop
-Inv-loop rows g₀ n g = (length g ≡ length g₀) × Cuts allen n g₀ g
+Inv-loop g₀ n g = (length g ≡ length g₀) × Cuts allen n g₀ g
 
 abbrev μ-loop : tie.MeasureT-loop
-μ-loop rows g₀ n g = weight ones n g
+μ-loop g₀ n g = weight ones n g
 
 some-empty-requires : tie.Need-some-empty-requires Inv-loop μ-loop
 some-empty-requires c κs = search needs
@@ -32,7 +34,7 @@ same-length c = search needs
 returns : tie.Need-returns Inv-loop μ-loop
 returns c = (
   inl (sym (c .before .before .before .before .before .some-empty .ensures) ∙ c .before .before .before .before .if1 .taken),
-  c .before .before .clear .ensures ∙ ap (λ (k : ℕ). replicate k 0) (c .before .before .before .before .before .before .before .before .pre .1 .long),
+  c .before .before .clear .ensures ∙ ap (λ (k : ℕ). replicate k 0) (c .before .before .before .before .before .before .before .before .pre .long),
 )
 
 loop-holds : tie.Need-loop-holds Inv-loop μ-loop
@@ -40,8 +42,8 @@ loop-holds c = (refl, none)
 
 sweep-all-requires : tie.Need-sweep-all-requires Inv-loop μ-loop
 sweep-all-requires c κs =
-    let s = c .before .before .before .before .before .before in
-    (s .pre .0, record { few = s .pre .1 .few; fits = omega (arith, s .pre .1 .long, c .before .loop .inv .0) })
+    let I = c .before .before in
+    cuts-fair _ lawful _ _ (fair _ _ (I .before .before .before .before .pre) (sym (I .before .some-empty .ensures) ∙ I .if1 .left)) (c .before .loop .inv .1)
 
 enum-known-one : tie.Need-enum-known-one Inv-loop μ-loop
 enum-known-one c = search needs
@@ -63,7 +65,7 @@ returns-2 c =
     let enum-told = c .before .before .before .before .enum-told in
     let clear2 = c .before .before .clear2 in (
       inr (dead-then _ _ _ _ (L .inv .1) (pass-dead _ _ _ _ _ (sweep-all .ensures) (enum-told .given .1))),
-      clear2 .ensures ∙ ap (λ (k : ℕ). replicate k 0) (sweep-all .kept .1 .0 ∙ L .inv .0 ∙ s .pre .1 .long),
+      clear2 .ensures ∙ ap (λ (k : ℕ). replicate k 0) (sweep-all .kept .0 ∙ L .inv .0 ∙ s .pre .long),
     )
 
 same-length-3 : tie.Need-same-length-3 Inv-loop μ-loop

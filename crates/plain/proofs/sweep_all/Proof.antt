@@ -1,11 +1,12 @@
--- The rows so far, and then one more.
+-- The events gone to so far, and then one more.
 use mathlib.Core.Path.{_≡_, subst}
 use Prim.Native.Nat.{ℕ, _≤_, _-_}
 use lib.Count.{ones}
 use lib.ListN.{length}
 use Rattle.theory.specs.Allen.{allen}
 use Rattle.theory.specs.Sweeps.{Progress}
-use Rattle.theory.proofs.PlainLaws.{dead-then}
+use Rattle.theory.proofs.AllenLaws.{lawful}
+use Rattle.theory.proofs.PlainLaws.{cuts-fair, dead-then}
 use Rattle.plain.specs.Routes.{AllTo}
 use Rattle.plain.proofs.RouteLaws.{pass-dead, pass-moved, nothing, all-next}
 use borrow.Author.Needs.{needs}
@@ -14,16 +15,16 @@ use Rattle.plain.proofs.sweep_all.Statement.{statement}
 use Rattle.plain.proofs.sweep_all.Tie as tie
 
 abbrev Inv-loop : tie.InvT-loop
-Inv-loop rows g₀ n changed₀ i₀ g changed i = (i ≤ n) × (length g ≡ length g₀) × Progress allen ones n (AllTo n i) g₀ g changed
+Inv-loop g₀ n changed₀ b₀ g changed b = (b ≤ n) × (length g ≡ length g₀) × Progress allen ones n (AllTo n b) g₀ g changed
 
 abbrev μ-loop : tie.MeasureT-loop
-μ-loop rows g₀ n changed₀ i₀ g changed i = n - i
+μ-loop g₀ n changed₀ b₀ g changed b = n - b
 
 loop-holds : tie.Need-loop-holds Inv-loop μ-loop
-loop-holds c = (search needs, search needs, nothing _ _ _ (c .before .pre .1) (λ a m b u. omega (arith, u .0)))
+loop-holds c = (search needs, search needs, nothing _ _ _ (c .before .pre) (λ x y z u. absurd (omega (arith, u .1))))
 
-sweep-row-requires : tie.Need-sweep-row-requires Inv-loop μ-loop
-sweep-row-requires c κs = let s = c .before .before .before .before .pre in (s .0, c .before .loop-test .taken, search needs)
+sweep-to-requires : tie.Need-sweep-to-requires Inv-loop μ-loop
+sweep-to-requires c κs = (c .before .loop-test .taken, cuts-fair _ lawful _ _ (c .before .before .before .before .pre) (c .before .before .loop .inv .2 .cuts))
 
 enum-known-one : tie.Need-enum-known-one Inv-loop μ-loop
 enum-known-one c = search needs
@@ -37,14 +38,14 @@ same-length c = search needs
 returns : tie.Need-returns Inv-loop μ-loop
 returns c =
     let L = c .before .before .before .before .before .before .before .loop in
-    let sweep-row = c .before .before .before .before .sweep-row in
-    dead-then _ _ _ _ (L .inv .2 .cuts) (pass-dead _ _ _ _ _ (sweep-row .ensures) (c .enum-told .given .1))
+    let sweep-to = c .before .before .before .before .sweep-to in
+    dead-then _ _ _ _ (L .inv .2 .cuts) (pass-dead _ _ _ _ _ (sweep-to .ensures) (c .enum-told .given .1))
 
 either-requires : tie.Need-either-requires Inv-loop μ-loop
 either-requires c κs = search needs
 
-add-i : tie.Need-add-i Inv-loop μ-loop
-add-i c = search needs
+add-b : tie.Need-add-b Inv-loop μ-loop
+add-b c = search needs
 
 loop-less : tie.Need-loop-less Inv-loop μ-loop
 loop-less c = search needs
@@ -53,10 +54,10 @@ loop-again : tie.Need-loop-again Inv-loop μ-loop
 loop-again c =
     let s = c .before .before .before .before .before .before .before .before .before .before .before in
     let L = c .before .before .before .before .before .before .before .before .before .loop in
-    let sweep-row = c .before .before .before .before .before .before .sweep-row in
+    let sweep-to = c .before .before .before .before .before .before .sweep-to in
     let one = c .before .before .one in
-    let h = pass-moved _ _ _ _ _ _ (sweep-row .ensures) (one .given .1) in
-    (search needs, search needs, rw (c .either .ensures) (all-next _ _ _ _ _ _ (s .pre .1) _ (L .inv .2) h))
+    let h = pass-moved _ _ _ _ _ _ (sweep-to .ensures) (one .given .1) in
+    (search needs, search needs, rw (c .either .ensures) (all-next _ _ _ _ _ _ (s .pre) _ (L .inv .2) h))
 
 same-length-2 : tie.Need-same-length-2 Inv-loop μ-loop
 same-length-2 c = search needs
@@ -65,8 +66,8 @@ returns-2 : tie.Need-returns-2 Inv-loop μ-loop
 returns-2 c =
     let v = c .before .loop in
     let s = c .before .before .before .args in
-    let e : v .i ≡ s .n = omega arith in
-    subst (λ (i : ℕ). Progress allen ones (s .n) (AllTo (s .n) i) (s .g .now) (v .g) (v .changed)) e (v .inv .2)
+    let e : v .b ≡ s .n = omega arith in
+    subst (λ (k : ℕ). Progress allen ones (s .n) (AllTo (s .n) k) (s .g .now) (v .g) (v .changed)) e (v .inv .2)
 
 pub sweep-all-spec : {M : Type 1} → statement M
 sweep-all-spec =
@@ -75,13 +76,13 @@ sweep-all-spec =
     Inv-loop
     μ-loop
     loop-holds
-    sweep-row-requires
+    sweep-to-requires
     enum-known-one
     enum-told
     same-length
     returns
     either-requires
-    add-i
+    add-b
     loop-less
     loop-again
     same-length-2

@@ -3,7 +3,7 @@ use mathlib.Core.Path.{sym, _∙_, ap}
 use Prim.Native.Nat.{ℕ}
 use lib.ListN.{replicate}
 use Rattle.takes.proofs.WaitingLaws.{empty-line}
-use Rattle.takes.proofs.StepsLaws.{fair-start}
+use Rattle.theory.proofs.GivenLaws.{fair}
 use Rattle.quick.proofs.RuleLaws.{rule-empty}
 use Rattle.quick.proofs.ShowLaws.{rule-ran, shows-contradiction, shows-closed, shows-paused}
 use borrow.Author.Needs.{needs}
@@ -30,7 +30,7 @@ all-waiting-requires c κs = (c .before .before .before .before .before .before 
 takes-requires : tie.Need-takes-requires
 takes-requires c κs =
     let I = c .before .before .before .before .before .before in
-    (fair-start _ _ (I .before .before .before .before .pre) (sym (I .before .some-empty .ensures) ∙ I .if1 .left), c .before .before .before .all-waiting .ensures .0)
+    (fair _ _ (I .before .before .before .before .pre) (sym (I .before .some-empty .ensures) ∙ I .if1 .left), c .before .before .before .all-waiting .ensures .0)
 
 enum-known-end : tie.Need-enum-known-end
 enum-known-end c = search needs

@@ -11,7 +11,8 @@ use Rattle.takes.specs.Waiting.{Idle}
 use Rattle.search.specs.Rule.{thereAt, tryAt, searchAt}
 use Rattle.search.specs.Steps.{after}
 use Rattle.search.proofs.RuleLaws.{from, from-end, from-spent, from-past, after-next, square}
-use Rattle.search.proofs.LookLaws.{there-is, searched-fair, next-searched, look-start, look-end, turn-emptied, turn-none, turn-kept, shows-gave-up, shows-none, shows-passed, shows-next, step-at, tries-left, stands-in}
+use Rattle.search.proofs.TryRight.{searched-fair}
+use Rattle.search.proofs.LookLaws.{there-is, next-searched, look-start, look-end, turn-emptied, turn-none, turn-kept, shows-gave-up, shows-none, shows-passed, shows-next, step-at, tries-left, stands-in}
 use borrow.Fn.Kinds.{In}
 use borrow.Fn.PlainCycle.{Measures, is, falls, and}
 use Rattle.search.proofs.look.Reads as look

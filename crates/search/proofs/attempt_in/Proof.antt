@@ -5,7 +5,9 @@ use Prim.Native.Nat.{ℕ, _*_, _≤_}
 use lib.ListN.{length, take}
 use lib.Seq.{length-take-le, take-at}
 use Rattle.grid.proofs.CellLaws.{copied-front}
-use Rattle.takes.specs.Steps.{Fair, ended}
+use Rattle.theory.specs.Fair.{Fair}
+use Rattle.theory.specs.Allen.{allen}
+use Rattle.takes.specs.Steps.{ended}
 use Rattle.search.specs.Rule.{triedBy, tryAt}
 use native.Mathlib.Omega.{arith}
 use borrow.Author.Needs.{needs}
@@ -32,7 +34,7 @@ attempt-requires c κs =
     let s = C .before .before .before .before in
     let m = s .args .n * s .args .n in
     let same : take m (C .copy .last .0) ≡ s .args .g .now = ap (take m) (C .copy .ensures) ∙ copied-front (s .args .g .now) (s .args .cut .now) m (s .pre .1) in
-    (s .pre .0, subst (Fair (s .args .n)) (sym same) (s .pre .2), s .pre .4, s .pre .5, s .pre .6, s .pre .7)
+    (s .pre .0, subst (Fair allen (s .args .n)) (sym same) (s .pre .2), s .pre .4, s .pre .5, s .pre .6, s .pre .7)
 
 same-length : tie.Need-same-length
 same-length c = search needs

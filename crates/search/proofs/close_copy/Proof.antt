@@ -8,7 +8,8 @@ use Rattle.grid.proofs.CellLaws.{copied-front}
 use Rattle.theory.specs.Allen.{allen}
 use Rattle.theory.specs.Line.{allPairs}
 use Rattle.theory.specs.Quick.{run}
-use Rattle.takes.specs.Steps.{Fair, ended}
+use Rattle.theory.specs.Fair.{Fair}
+use Rattle.takes.specs.Steps.{ended}
 use Rattle.search.specs.Rule.{enough, triedBy}
 use native.Mathlib.Omega.{arith}
 use borrow.Author.Needs.{needs}
@@ -35,7 +36,7 @@ close-all-requires c κs =
     let s = C .before .before .before .before in
     let m = s .args .n * s .args .n in
     let same : take m (C .copy .last .0) ≡ s .args .g .now = ap (take m) (C .copy .ensures) ∙ copied-front (s .args .g .now) (s .args .work .now) m (s .pre .1) in
-    (s .pre .0, subst (Fair (s .args .n)) (sym same) (s .pre .2))
+    (s .pre .0, subst (Fair allen (s .args .n)) (sym same) (s .pre .2))
 
 same-length : tie.Need-same-length
 same-length c = search needs

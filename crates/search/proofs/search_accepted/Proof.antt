@@ -4,7 +4,7 @@ use Prim.Native.Nat.{_*_}
 use lib.ListN.{take}
 use lib.Seq.{length-take-le}
 use Rattle.takes.proofs.WaitingLaws.{empty-line}
-use Rattle.takes.proofs.StepsLaws.{fair-start}
+use Rattle.theory.proofs.GivenLaws.{fair}
 use Rattle.search.specs.Rule.{fromClosed}
 use Rattle.search.proofs.RuleLaws.{square, at-first}
 use Rattle.search.proofs.LookLaws.{no-grid, a-grid}
@@ -27,7 +27,7 @@ close-copy-requires : tie.Need-close-copy-requires
 close-copy-requires c κs =
     let I = c .before .before .before in
     let s = I .before .before .before .pre in
-    (empty-line _, s .0 .long, fair-start _ _ (s .0) (sym (I .before .some-empty .ensures) ∙ I .if1 .left), record { few = s .0 .few; fits = square _ (s .0 .few) .1 })
+    (empty-line _, s .0 .long, fair _ _ (s .0) (sym (I .before .some-empty .ensures) ∙ I .if1 .left), record { few = s .0 .few; fits = square _ (s .0 .few) .1 })
 
 enum-known-first : tie.Need-enum-known-first
 enum-known-first c = search needs

@@ -1,8 +1,9 @@
 -- The cuts from the first event on come to those from where it stands.
 use mathlib.Core.Path.{_≡_, subst}
 use Prim.Native.Nat.{_+_, _-_, _*_, _≤_}
+use Rattle.theory.proofs.AllenLaws.{left-is}
 use Rattle.takes.specs.Steps.{Passes}
-use Rattle.takes.proofs.StepsLaws.{left-is, first-quiet, first-cuts, second-quiet, second-cuts, passes-none, passes-more, finds-end}
+use Rattle.takes.proofs.StepsLaws.{first-quiet, first-cuts, second-quiet, second-cuts, passes-none, passes-more, finds-end}
 use native.Mathlib.Omega.{arith}
 use borrow.Author.Needs.{needs}
 use Rattle.takes.proofs.cut_from.Statement.{statement}

@@ -1,6 +1,7 @@
 -- An odd cut is looked at by itself, and the rest from the next event on.
 use mathlib.Core.Logic.{⊎-elim}
-use Rattle.takes.proofs.StepsLaws.{left-is, second-cuts, second-quiet, odd-found, odd-finds, even-finds}
+use Rattle.theory.proofs.AllenLaws.{left-is}
+use Rattle.takes.proofs.StepsLaws.{second-cuts, second-quiet, odd-found, odd-finds, even-finds}
 use native.Mathlib.Omega.{arith}
 use borrow.Author.Needs.{needs}
 use Rattle.takes.proofs.next_cut.Statement.{statement}

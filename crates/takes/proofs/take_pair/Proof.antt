@@ -7,9 +7,10 @@ use Rattle.theory.specs.Quick.{turns}
 use Rattle.theory.specs.Cuts.{cutsFrom}
 use Rattle.theory.proofs.AllenLaws.{lawful}
 use Rattle.theory.proofs.KeepLaws.{Good}
+use Rattle.theory.proofs.FairLaws.{fair-good, good-fair}
 use Rattle.theory.proofs.CutsLaws.{cuts-all, cuts-none, cuts-dead, cuts-going, keeps-at}
 use Rattle.takes.specs.Steps.{Sees, Waits, waitingIn}
-use Rattle.takes.proofs.StepsLaws.{fair-good, good-fair, all-quiet, found-below, is-dead, has-room, is-going, is-sound}
+use Rattle.takes.proofs.StepsLaws.{all-quiet, found-below, is-dead, has-room, is-going, is-sound}
 use borrow.Author.Needs.{needs}
 use native.Mathlib.Omega.{arith}
 use Rattle.takes.proofs.take_pair.Statement.{statement}
@@ -24,7 +25,7 @@ abbrev μ-loop : tie.MeasureT-loop
 μ-loop g₀ ring₀ flag₀ n i j set v w at₀ c₀ g ring flag at c = n * 2 - c
 
 get-requires : tie.Need-get-requires Inv-loop μ-loop
-get-requires c κs = let s = c .before .before .pre in (s .3 .few, s .0, s .1, s .3 .fits)
+get-requires c κs = let s = c .before .before .pre in (s .3 .fine .few, s .0, s .1, s .3 .fine .fits)
 
 same-length : tie.Need-same-length Inv-loop μ-loop
 same-length c = search needs
@@ -38,7 +39,7 @@ rows-of-requires : tie.Need-rows-of-requires Inv-loop μ-loop
 rows-of-requires c κs = search needs
 
 get-requires-2 : tie.Need-get-requires-2 Inv-loop μ-loop
-get-requires-2 c κs = let s = c .before .before .before .before .before .before .pre in (s .3 .few, s .1, s .0, s .3 .fits)
+get-requires-2 c κs = let s = c .before .before .before .before .before .before .pre in (s .3 .fine .few, s .1, s .0, s .3 .fine .fits)
 
 rows-of-requires-2 : tie.Need-rows-of-requires-2 Inv-loop μ-loop
 rows-of-requires-2 c κs = search needs
@@ -48,16 +49,16 @@ loop-holds c =
     let s = c .before .before .before .before .before .before .before .before .pre in
     let v = c .before .before .before .rows-of .ensures in
     let w = c .rows-of2 .ensures in
-    (omega arith, search needs, s .4, cuts-all _ _ _ _ _ _, fair-good _ _ (s .3), record { there = v .1; set = v .0 ∙ c .before .before .before .before .before .get .ensures; back = w .1; mirror = w .0 ∙ c .before .get2 .ensures })
+    (omega arith, search needs, s .4, cuts-all _ _ _ _ _ _, fair-good _ lawful _ _ (s .3), record { there = v .1; set = v .0 ∙ c .before .before .before .before .before .get .ensures; back = w .1; mirror = w .0 ∙ c .before .get2 .ensures })
 
 next-cut-requires : tie.Need-next-cut-requires Inv-loop μ-loop
 next-cut-requires c κs =
     let v = c .before .loop .inv in
     let s = c .before .before .before .before .before .before .before .before .before .before .pre in
-    (v .5, s .0, s .1, v .0, good-fair _ _ _ (s .3 .few) (v .4))
+    (v .5, s .0, s .1, v .0, good-fair _ lawful _ _ _ (s .3 .fine .few) (v .4))
 
 mul-if2 : tie.Need-mul-if2 Inv-loop μ-loop
-mul-if2 c = omega (arith, c .before .before .before .before .before .before .before .before .before .before .before .pre .3 .few)
+mul-if2 c = omega (arith, c .before .before .before .before .before .before .before .before .before .before .before .pre .3 .fine .few)
 
 same-length-2 : tie.Need-same-length-2 Inv-loop μ-loop
 same-length-2 c = search needs
@@ -66,7 +67,7 @@ returns-2 : tie.Need-returns-2 Inv-loop μ-loop
 returns-2 c =
     let v = c .before .before .before .loop .inv in
     let s = c .before .before .before .before .before .before .before .before .before .before .before .before .pre in
-    (record { same = sym (c .before .next-cut .ensures .passes .same _ ∙ cuts-none _ _ _ _ _ _ _ (c .if2 .taken)) ∙ v .3; sound = v .2 }, good-fair _ _ _ (s .3 .few) (v .4))
+    (record { same = sym (c .before .next-cut .ensures .passes .same _ ∙ cuts-none _ _ _ _ _ _ _ (c .if2 .taken)) ∙ v .3; sound = v .2 }, good-fair _ lawful _ _ _ (s .3 .fine .few) (v .4))
 
 make-cut-requires : tie.Need-make-cut-requires Inv-loop μ-loop
 make-cut-requires c κs =
@@ -75,7 +76,7 @@ make-cut-requires c κs =
     let v = F .before .before .before .loop .inv in
     let s = F .before .before .before .before .before .before .before .before .before .before .before .before .pre in
     let h = found-below _ _ _ _ _ _ _ N (F .if2 .left) in
-    (s .0, s .1, s .2, h, record { few = s .3 .few; fits = v .4 .fits }, v .2, N .cuts h)
+    (s .0, s .1, s .2, h, record { few = s .3 .fine .few; fits = v .4 .fits }, v .2, N .cuts h)
 
 enum-known-one : tie.Need-enum-known-one Inv-loop μ-loop
 enum-known-one c = search needs
@@ -101,7 +102,7 @@ returns-3 c =
     )
 
 add-c : tie.Need-add-c Inv-loop μ-loop
-add-c c = omega (arith, c .before .before .before .before .before .before .before .before .before .before .next-cut .ensures .passes .within, c .before .before .before .before .before .before .before .before .before .before .before .before .before .before .before .before .before .before .before .before .before .pre .3 .few)
+add-c c = omega (arith, c .before .before .before .before .before .before .before .before .before .before .next-cut .ensures .passes .within, c .before .before .before .before .before .before .before .before .before .before .before .before .before .before .before .before .before .before .before .before .before .pre .3 .fine .few)
 
 loop-less : tie.Need-loop-less Inv-loop μ-loop
 loop-less c = omega (arith, c .before .before .before .before .before .before .before .before .before .before .next-cut .ensures .passes .from, found-below _ _ _ _ _ _ _ (c .before .before .before .before .before .before .before .before .before .before .next-cut .ensures) (c .before .before .before .before .before .before .before .before .before .if2 .left))

@@ -2,10 +2,11 @@
 use mathlib.Core.Path.{_≡_, ap, sym, _∙_}
 use Prim.Native.Nat.{_≤_, _-_}
 use lib.ListN.{length}
+use Rattle.theory.specs.Fair.{Fair}
 use Rattle.theory.specs.Allen.{allen}
 use Rattle.theory.specs.Quick.{run}
 use Rattle.theory.proofs.StepLaws.{rest, rest-all, rest-dead, rest-going}
-use Rattle.takes.specs.Steps.{Fair, Waits, waitingIn}
+use Rattle.takes.specs.Steps.{Waits, waitingIn}
 use Rattle.takes.proofs.StepsLaws.{is-dead, has-room, is-going, is-sound, going-fair, stopped, finished}
 use Rattle.takes.proofs.WaitingLaws.{cleared, all-left}
 use borrow.Author.Needs.{needs}
@@ -16,7 +17,7 @@ use Rattle.takes.proofs.takes.Tie as tie
 abbrev Inv-loop : tie.InvT-loop
 Inv-loop g₀ ring₀ flag₀ n limit at₀ t₀ g ring flag at t =
     (t ≤ limit) × (length g ≡ length g₀) × Waits n ring flag at
-    × (rest allen n limit t g (waitingIn ring at) ≡ run allen n limit 0 g₀ (waitingIn ring₀ at₀)) × Fair n g
+    × (rest allen n limit t g (waitingIn ring at) ≡ run allen n limit 0 g₀ (waitingIn ring₀ at₀)) × Fair allen n g
 
 abbrev μ-loop : tie.MeasureT-loop
 μ-loop g₀ ring₀ flag₀ n limit at₀ t₀ g ring flag at t = limit - t
@@ -37,7 +38,7 @@ returns c =
     (sym (stopped _ _ _ _ _ _ _ (I .before .if1 .taken) (I .if2 .taken)) ∙ v .3, cleared _ _ _ (v .2 .ring-len) (c .clear-flags .ensures))
 
 leave-requires : tie.Need-leave-requires Inv-loop μ-loop
-leave-requires c κs = (c .before .before .before .before .before .before .before .pre .0 .few, c .before .before .before .if1 .taken, c .before .before .before .before .before .loop .inv .2)
+leave-requires c κs = (c .before .before .before .before .before .before .before .pre .0 .fine .few, c .before .before .before .if1 .taken, c .before .before .before .before .before .loop .inv .2)
 
 add-t : tie.Need-add-t Inv-loop μ-loop
 add-t c = search needs

@@ -6,7 +6,10 @@ use native.Mathlib.Decide.{ℕ-discrete}
 use native.Mathlib.Omega.{arith}
 use lib.ListN.{length, getD, set}
 use lib.Seq.{getD-set-same, getD-set-other}
-use Rattle.relation.specs.Filling.{Filled}
+
+-- the first p entries hold what f says
+abbrev pub Filled : (ℕ → ℕ) → List ℕ → ℕ → Type 0
+Filled f l p = (k : ℕ) → k < p → getD l k 0 ≡ f k
 
 pub filled-more : (f : ℕ → ℕ) (l : List ℕ) (p x : ℕ) → p < length l → Filled f l p → x ≡ f p → Filled f (set l p x) (p + 1)
 filled-more f l p x h w e k lt = go (ℕ-discrete k p)
