@@ -147,8 +147,9 @@ static int cut(u16 *g, int n, struct line *l, int a, int m, int b) {
     return 1;
 }
 
-// One take: whether nothing became empty.
+// One take: whether nothing became empty. Where nothing is said of i to j, it changes nothing.
 static int take(u16 *g, int n, struct line *l, int i, int j) {
+    if (g[i * n + j] == ALL) return 1;
     for (int k = 0; k < n; k++) {
         if (k == i || k == j) continue;
         if (!cut(g, n, l, i, j, k) || !cut(g, n, l, k, i, j)) return 0;
@@ -184,17 +185,21 @@ u64 c_quick_close(u16 *g, u64 cells, u64 n, u64 limit) {
 
 // ---- plain closing
 
-// One sweep over all routes: 1 where something changed, 0 where not, -1 where a cell became empty.
+// One sweep over all routes: 1 where something changed, 0 where not, -1 where a cell became empty. Where nothing is
+// said of m to b, no route over m to b changes anything, and a route over a itself never does.
 static int sweep(u16 *g, int n) {
     int changed = 0;
-    for (int a = 0; a < n; a++) for (int b = a + 1; b < n; b++) for (int m = 0; m < n; m++) {
-        if (m == a || m == b) continue;
-        u16 old = g[a * n + b], new = left_by(old, g[a * n + m], g[m * n + b]);
-        if (new == old) continue;
-        if (!new) return -1;
-        g[a * n + b] = new;
-        g[b * n + a] = turned[new];
-        changed = 1;
+    for (int b = 0; b < n; b++) for (int m = 0; m < n; m++) {
+        u16 half = g[m * n + b];
+        if (m == b || half == ALL) continue;
+        for (int a = 0; a < b; a++) {
+            u16 old = g[a * n + b], new = left_by(old, g[a * n + m], half);
+            if (new == old) continue;
+            if (!new) return -1;
+            g[a * n + b] = new;
+            g[b * n + a] = turned[new];
+            changed = 1;
+        }
     }
     return changed;
 }

@@ -683,14 +683,15 @@ static double search_over_closing(int who) {
 }
 
 // A placing of 32 events needs at least 496 tries, one for each pair.
-static void measure_shortest_search(void) {
-    choose_grids(MOST, 8, planning, PLACED, 496, 496);
+static void measure_shortest_search(const char *what, say *saying) {
+    choose_grids(MOST, 8, saying, PLACED, 496, 496);
     for (int k = 0; k < grids.count; k++)
         same_search("search in 496 tries", k, grid(k), CELLS, MOST, ALLOWANCE, 2 * MOST);
-    printf("a search at n = 32 placed in 496 tries: ");
+    printf("a search at n = 32 placed in 496 tries, %s: ", what);
     print_ratio(timed(search_round));
     printf("that search over one quick closing of its grid: proved %.2f, C %.2f\n",
            search_over_closing(PROVED), search_over_closing(PLAIN_C));
+    fflush(0);
 }
 
 static void load_all(const char *folder) {
@@ -717,7 +718,9 @@ void begin(char **stack) {
     measure_place();
     measure_growth("quick closing, middling grids,", quick_round, make_for_closing);
     measure_growth("a search that is placed, as in planning,", search_round, make_for_search);
-    measure_shortest_search();
+    measure_shortest_search("as in planning", planning);
+    measure_shortest_search("all sets", all_sets);
+    measure_shortest_search("middling", middling);
     exit(0);
 }
 

@@ -1,23 +1,23 @@
 -- The laws of composition of sets, from its meaning. Assumes nothing.
 use mathlib.Core.Path.{_≡_, refl, sym, ap, _∙_, subst}
 use mathlib.Core.Logic.{_↔_}
-use Prim.Native.Nat.{ℕ, zero, suc, _+_, _*_, _/_, _%_, _≤_, _<_}
+use Prim.Native.Nat.{ℕ, _≤_, _<_}
 use native.Mathlib.Omega.{arith}
 use native.Mathlib.Decide.{decLt}
 use lib.Dec.{T, eqb, eqb→eq, ltb, ltb→lt, lit<}
 use mathlib.Core.List.{List, []}
 use lib.ListN.{getD, List·getD-eq-default}
-use lib.Bits.{bitOr, or-lt, or-comm, or-shifted-r}
+use lib.Bits.{bitOr, or-lt}
 use Rattle.relation.specs.Comparing.{relOf}
-use Rattle.relation.specs.Meaning.{Event, holds, exchanged, pickℕ}
+use Rattle.relation.specs.Meaning.{Event, holds, exchanged}
 use Rattle.relation.specs.Sets.{member, some, Inside}
 use Rattle.relation.specs.Composition.{Composed, table, entry, converse, composeRow, compose}
 use Rattle.relation.proofs.Tested.{T-of, all, all-at, some-at}
 use Rattle.relation.proofs.Relations.{relOf-lt, exactly-one, exchanged-holds}
 use Rattle.relation.proofs.TableLaws.{agrees, stands}
-use Rattle.relation.proofs.SetLaws.{member-none, member-mark, member-low-marks, same-inside}
+use Rattle.relation.proofs.SetLaws.{member-none, member-mark, same-inside}
 use Rattle.relation.proofs.LowestLaws.{some-member}
-use Rattle.relation.proofs.UnionLaws.{union-lt, union-from, union-to, union-small, union-none, union-or}
+use Rattle.relation.proofs.UnionLaws.{union-lt, union-from, union-to, union-none, union-or}
 use Rattle.relation.proofs.ExchangeLaws.{exchanged-lt, exchanged-twice, member-converse, converse-lt, converse-twice, converse-or}
 
 -- ---- the table
@@ -308,39 +308,6 @@ compose-eq-right a l =
     there t h f =
         let e = eq-second (f .r) t (f .r-lt) h (subst (λ (s : ℕ). T (member t (entry (f .r) s))) (is-eq (f .s) (f .s-lt) (f .s-in)) (f .stood)) in
         subst (λ (u : ℕ). T (member u a)) (sym e) (f .r-in)
-
--- marks above the thirteen count for nothing
-compose-small-left : (a b : ℕ) → compose (a % 8192) b ≡ compose a b
-unfolding compose
-compose-small-left a b = union-small (λ r. composeRow r b) a
-
-compose-small-right : (a b : ℕ) → compose a (b % 8192) ≡ compose a b
-compose-small-right a b =
-    same-inside (compose a (b % 8192)) (compose a b) (compose-lt a (b % 8192)) (compose-lt a b)
-    (compose-mono a a (b % 8192) b all (record { each = λ t h w. subst T (member-low-marks t b h) w }))
-    (compose-mono a a b (b % 8192) all (record { each = λ t h w. subst T (sym (member-low-marks t b h)) w }))
-  where
-    all : Inside a a
-    all = record { each = λ t h w. w }
-
--- what a with eq allows, where b has eq: a itself
-abbrev byEq : ℕ → ℕ → ℕ
-byEq a b = pickℕ (member 12 b) (a % 8192) 0
-
--- the eq of the second set apart from its other members
-pub compose-apart : (a b : ℕ) → bitOr (byEq a b) (compose a (b % 4096)) ≡ compose a b
-unfolding member
-compose-apart a b =
-    let e : b / 4096 % 2 * 4096 + b % 4096 ≡ b % 8192 = omega arith in
-    ap (λ (x : ℕ). bitOr x (compose a (b % 4096))) (with-eq (b / 4096 % 2) (omega arith))
-    ∙ or-comm (compose a (b / 4096 % 2 * 4096)) (compose a (b % 4096))
-    ∙ sym (compose-or-right a (b % 4096) (b / 4096 % 2 * 4096))
-    ∙ ap (compose a) (or-shifted-r (b / 4096 % 2) 12 (b % 4096) (omega arith) ∙ e) ∙ compose-small-right a b
-  where
-    with-eq : (x : ℕ) → x < 2 → pickℕ (eqb x 1) (a % 8192) 0 ≡ compose a (x * 4096)
-    with-eq zero h = sym (compose-none-right a)
-    with-eq (suc zero) h = sym (sym (compose-small-left a 4096) ∙ compose-eq-right (a % 8192) (omega arith))
-    with-eq (suc (suc x)) h = absurd (omega arith)
 
 -- whatever the other relation is, each relation is allowed by some
 all-left-test : T (all 13 (λ s. all 13 (λ t. some 13 (λ r. member t (entry r s)))))

@@ -13,7 +13,7 @@ use Rattle.relation.specs.Packed.{part, pickedOf, FourAt, RowsFrom, Mark
 use Rattle.relation.proofs.Tested.{T-of, or-assoc, all, all-at}
 use Rattle.relation.proofs.SetLaws.{member-or, member-high, same}
 use Rattle.relation.proofs.UnionLaws.{below-first, below-next, union-lt, union-small, union-mark}
-use Rattle.relation.proofs.Laws.{entry-small, row-lt, compose-eq-left, compose-apart}
+use Rattle.relation.proofs.Laws.{entry-small, row-lt, compose-eq-left}
 
 -- ---- each of the four sets by itself
 
@@ -123,14 +123,24 @@ module _ (f : ℕ → ℕ) (small : (r : ℕ) → r < 13 → f r < 8192) (a : �
 
 -- ---- rows, and what a set picks of them
 
-module _ (r b : ℕ) (c₀ c₁ c₂ c₃ c₄ c₅ c₆ c₇ c₈ c₉ d₀ d₁ : ℕ) (k₀ : FourAt r 0 c₀) (k₁ : FourAt r 1 c₁) (k₂ : FourAt r 2 c₂) (k₃ : FourAt r 3 c₃) (k₄ : FourAt r 4 c₄) (k₅ : FourAt r 5 c₅)
-    (k₆ : FourAt r 6 c₆) (k₇ : FourAt r 7 c₇) (k₈ : FourAt r 8 c₈) (k₉ : FourAt r 9 c₉) (j₀ : FourAt r 10 d₀) (j₁ : FourAt r 11 d₁) where
-  pub rows-are : RowsFrom r b (bitOr (bitOr (pickedOf b c₀ c₁ c₂ c₃) (pickedOf (b / 16) c₄ c₅ c₆ c₇)) (pickedOf (b / 256) c₈ c₉ d₀ d₁))
-  unfolding composeRow
-  rows-are l h =
+module _ (r b : ℕ) (c₀ c₁ c₂ c₃ c₄ c₅ c₆ c₇ c₈ c₉ d₀ d₁ d₂ : ℕ) (k₀ : FourAt r 0 c₀) (k₁ : FourAt r 1 c₁) (k₂ : FourAt r 2 c₂) (k₃ : FourAt r 3 c₃) (k₄ : FourAt r 4 c₄) (k₅ : FourAt r 5 c₅)
+    (k₆ : FourAt r 6 c₆) (k₇ : FourAt r 7 c₇) (k₈ : FourAt r 8 c₈) (k₉ : FourAt r 9 c₉) (j₀ : FourAt r 10 d₀) (j₁ : FourAt r 11 d₁) (j₂ : FourAt r 12 d₂) where
+  abbrev apart : ℕ
+  apart = bitOr (bitOr (pickedOf b c₀ c₁ c₂ c₃) (pickedOf (b / 16) c₄ c₅ c₆ c₇)) (pickedOf (b / 256) c₈ c₉ d₀ d₁)
+
+  -- but for its eq
+  rows-apart : (l : ℕ) → l < 4 → part l apart ≡ unionOver (entry (r + l)) (b % 4096)
+  rows-apart l h =
       part-or l (bitOr (pickedOf b c₀ c₁ c₂ c₃) (pickedOf (b / 16) c₄ c₅ c₆ c₇)) (pickedOf (b / 256) c₈ c₉ d₀ d₁)
       ∙ ap₂ bitOr (part-or l (pickedOf b c₀ c₁ c₂ c₃) (pickedOf (b / 16) c₄ c₅ c₆ c₇) ∙ ap₂ bitOr (part-picked l b c₀ c₁ c₂ c₃) (part-picked l (b / 16) c₄ c₅ c₆ c₇)) (part-picked l (b / 256) c₈ c₉ d₀ d₁)
       ∙ rw (k₀ l h, k₁ l h, k₂ l h, k₃ l h, k₄ l h, k₅ l h, k₆ l h, k₇ l h, k₈ l h, k₉ l h, j₀ l h, j₁ l h) (sym (twelve (entry (r + l)) (entry-small (r + l)) b))
+
+  pub rows-are : RowsFrom r b (bitOr apart (pickℕ (member 12 b) d₂ 0))
+  unfolding composeRow
+  rows-are l h =
+      part-or l apart (pickℕ (member 12 b) d₂ 0)
+      ∙ ap₂ bitOr (rows-apart l h) (part-pick l (member 12 b) d₂ ∙ ap (λ (x : ℕ). pickℕ (member 12 b) x 0) (j₂ l h))
+      ∙ below-next (entry (r + l)) b 12 (lit< tt) (entry-small (r + l) 12 (lit< tt)) ∙ union-small (entry (r + l)) b
 
 cut-pick : (b : Bool) (x : ℕ) → x < 8192 → bitAnd x (pickℕ b 8191 0) ≡ pickℕ b x 0
 cut-pick true x h = and-mask x 13 ∙ mod-eq-of-lt h
@@ -138,33 +148,31 @@ cut-pick false x h = and-zero-r x
 
 -- the rows that n marks, joined
 folded-cut : (r n b x m : ℕ) → RowsFrom r b x → Marked n m
-    → folded (bitAnd x m) ≡ pickedOf n (composeRow (r + 0) (b % 4096)) (composeRow (r + 1) (b % 4096)) (composeRow (r + 2) (b % 4096)) (composeRow (r + 3) (b % 4096))
+    → folded (bitAnd x m) ≡ pickedOf n (composeRow (r + 0) b) (composeRow (r + 1) b) (composeRow (r + 2) b) (composeRow (r + 3) b)
 folded-cut r n b x m rows marks = ap₂ bitOr (ap₂ bitOr (ap₂ bitOr (at 0 (lit< tt)) (at 1 (lit< tt))) (at 2 (lit< tt))) (at 3 (lit< tt))
   where
-    at : (l : ℕ) → l < 4 → part l (bitAnd x m) ≡ pickℕ (member l n) (composeRow (r + l) (b % 4096)) 0
-    at l h = part-and l x m ∙ ap₂ bitAnd (rows l h) (marks l h) ∙ cut-pick (member l n) (composeRow (r + l) (b % 4096)) (row-lt (r + l) (b % 4096))
+    at : (l : ℕ) → l < 4 → part l (bitAnd x m) ≡ pickℕ (member l n) (composeRow (r + l) b) 0
+    at l h = part-and l x m ∙ ap₂ bitAnd (rows l h) (marks l h) ∙ cut-pick (member l n) (composeRow (r + l) b) (row-lt (r + l) b)
 
 module _ (a b x y z p q s : ℕ) (h₀ : RowsFrom 0 b x) (h₁ : RowsFrom 4 b y) (h₂ : RowsFrom 8 b z) (m₀ : Marked a p) (m₁ : Marked (a / 16) q) (m₂ : Marked (a / 256) s) where
-  -- without eq on either side
-  pub composed-apart : folded (bitOr (bitOr (bitAnd x p) (bitAnd y q)) (bitAnd z s)) ≡ unionOver (λ r. composeRow r (b % 4096)) (a % 4096)
+  -- without the eq of a
+  pub composed-apart : folded (bitOr (bitOr (bitAnd x p) (bitAnd y q)) (bitAnd z s)) ≡ unionOver (λ r. composeRow r b) (a % 4096)
   composed-apart =
       folded-or (bitOr (bitAnd x p) (bitAnd y q)) (bitAnd z s)
       ∙ ap₂ bitOr (folded-or (bitAnd x p) (bitAnd y q) ∙ ap₂ bitOr (folded-cut 0 a b x p h₀ m₀) (folded-cut 4 (a / 16) b y q h₁ m₁)) (folded-cut 8 (a / 256) b z s h₂ m₂)
-      ∙ sym (twelve (λ r. composeRow r (b % 4096)) (λ r h. row-lt r (b % 4096)) a)
+      ∙ sym (twelve (λ r. composeRow r b) (λ r h. row-lt r b) a)
 
--- with what eq allows on both sides
-pub with-eq : (a b : ℕ) → bitOr (bitOr (unionOver (λ r. composeRow r (b % 4096)) (a % 4096)) (pickℕ (member 12 a) (b % 4096) 0)) (pickℕ (member 12 b) (a % 8192) 0) ≡ compose a b
-unfolding compose
-with-eq a b = ap (λ (x : ℕ). bitOr x (pickℕ (member 12 b) (a % 8192) 0)) thirteen ∙ or-comm (compose a (b % 4096)) (pickℕ (member 12 b) (a % 8192) 0) ∙ compose-apart a b
+-- and with it
+pub with-eq : (a b : ℕ) → bitOr (unionOver (λ r. composeRow r b) (a % 4096)) (pickℕ (member 12 a) (b % 8192) 0) ≡ compose a b
+unfolding compose composeRow
+with-eq a b =
+    ap (λ (x : ℕ). bitOr (unionOver (λ r. composeRow r b) (a % 4096)) (pickℕ (member 12 a) x 0)) eq-row
+    ∙ below-next (λ r. composeRow r b) a 12 (lit< tt) (row-lt 12 b) ∙ union-small (λ r. composeRow r b) a
   where
-    f : ℕ → ℕ
-    f r = composeRow r (b % 4096)
-
-    eq-row : b % 4096 ≡ f 12
-    eq-row = sym (compose-eq-left (b % 4096) (omega arith)) ∙ union-mark f 12 (lit< tt) (row-lt 12 (b % 4096))
-
-    thirteen : bitOr (unionOver f (a % 4096)) (pickℕ (member 12 a) (b % 4096) 0) ≡ compose a (b % 4096)
-    thirteen = ap (λ (x : ℕ). bitOr (unionOver f (a % 4096)) (pickℕ (member 12 a) x 0)) eq-row ∙ below-next f a 12 (lit< tt) (row-lt 12 (b % 4096)) ∙ union-small f a
+    eq-row : b % 8192 ≡ composeRow 12 b
+    eq-row =
+        sym (compose-eq-left (b % 8192) (omega arith)) ∙ union-mark (λ r. composeRow r (b % 8192)) 12 (lit< tt) (row-lt 12 (b % 8192))
+        ∙ union-small (entry 12) b
 
 -- ---- the numbers that the functions make
 

@@ -19,9 +19,9 @@ pickedOf n p q v w = bitOr (bitOr (bitOr (pickℕ (member 0 n) p 0) (pickℕ (me
 abbrev pub FourAt : ℕ → ℕ → ℕ → Type 0
 FourAt r s x = (l : ℕ) → l < 4 → part l x ≡ entry (r + l) s
 
--- relations r to r + 3 with b but for its eq
+-- relations r to r + 3 with b
 abbrev pub RowsFrom : ℕ → ℕ → ℕ → Type 0
-RowsFrom r b x = (l : ℕ) → l < 4 → part l x ≡ composeRow (r + l) (b % 4096)
+RowsFrom r b x = (l : ℕ) → l < 4 → part l x ≡ composeRow (r + l) b
 
 -- all relations in each of the four sets that n marks
 abbrev pub Marked : ℕ → ℕ → Type 0

@@ -156,8 +156,15 @@ fn marked(n: u16) -> u64
     (digits * 35185445863425 & 281479271743489) * 8191
 }
 
-// Relations 0 to 3, 4 to 7, and 8 to 11, each with a set but for its eq. They stand one by one, and each is called in one place, so
-// that the compiler works the four sets out.
+// Four sets where b has eq, and else nothing.
+fn where_eq(b: u16, four: u64) -> u64
+    ensures { λ x. ⌜ x ≡ pickℕ (member 12 b) four 0 ⌝ }
+{
+    if has(b, 12) { four } else { 0 }
+}
+
+// Relations 0 to 3, 4 to 7, and 8 to 11, each with a set. They stand one by one, and each is called in one place, so that the
+// compiler works the four sets out.
 fn rows_low(b: u16) -> u64
     ensures { λ x. ⌜ RowsFrom 0 b x ⌝ }
 {
@@ -183,7 +190,7 @@ fn rows_low(b: u16) -> u64
         four_at(&t, 0, 10),
         four_at(&t, 0, 11),
     );
-    first | second | third
+    first | second | third | where_eq(b, four_at(&t, 0, 12))
 }
 
 fn rows_middle(b: u16) -> u64
@@ -211,7 +218,7 @@ fn rows_middle(b: u16) -> u64
         four_at(&t, 4, 10),
         four_at(&t, 4, 11),
     );
-    first | second | third
+    first | second | third | where_eq(b, four_at(&t, 4, 12))
 }
 
 fn rows_high(b: u16) -> u64
@@ -239,10 +246,10 @@ fn rows_high(b: u16) -> u64
         four_at(&t, 8, 10),
         four_at(&t, 8, 11),
     );
-    first | second | third
+    first | second | third | where_eq(b, four_at(&t, 8, 12))
 }
 
-// The twelve relations but eq, each with a set but for its eq, four to a number; and the set.
+// The twelve relations but eq, each with a set, four to a number; and the set, which is the row of eq.
 pub struct Rows {
     pub low: u64,
     pub middle: u64,
@@ -264,7 +271,7 @@ pub fn rows_of(b: u16) -> Rows
     }
 }
 
-// The composition of a set with the set of the rows. Eq stands apart on both sides, since it changes nothing.
+// The composition of a set with the set of the rows.
 pub fn compose_by(a: u16, rows: Rows) -> u16
     requires { ⌜ RowsOf rows ⌝ }
     ensures { λ x. ⌜ x ≡ compose a (rows .set) ⌝ }
@@ -274,7 +281,7 @@ pub fn compose_by(a: u16, rows: Rows) -> u16
     let high = rows.high & marked(a / 256);
     let four = low | middle | high;
     let all = (four | four >> 16 | four >> 32 | four >> 48) % 8192;
-    all as u16 | given(a, 12, rows.set % 4096) | given(rows.set, 12, a % 8192)
+    all as u16 | given(a, 12, rows.set % 8192)
 }
 
 // The composition of two sets, for a single call.

@@ -1,4 +1,4 @@
--- Each of the twelve numbers has four entries of the table.
+-- Each of the thirteen numbers has four entries of the table.
 use mathlib.Core.Path.{refl}
 use lib.Dec.{lit<}
 use Rattle.relation.specs.Composition.{table}
@@ -64,11 +64,24 @@ four-at-requires-12 c κs = (refl, lit< tt, lit< tt)
 picked-requires-3 : tie.Need-picked-requires-3
 picked-requires-3 c κs = search needs
 
+four-at-requires-13 : tie.Need-four-at-requires-13
+unfolding table
+four-at-requires-13 c κs = (refl, lit< tt, lit< tt)
+
+where-eq-requires : tie.Need-where-eq-requires
+where-eq-requires c κs = search needs
+
 returns : tie.Need-returns
 returns c =
-    rw (c .before .before .before .before .before .before .before .before .before .before .before .before .before .before .before .before .before .before .picked .ensures, c .before .before .before .before .before .before .before .before .before .picked2 .ensures, c .picked3 .ensures) (
-    rows-are 8 _ _ _ _ _ _ _ _ _ _ _ _ _ (c .before .before .before .before .before .before .before .before .before .before .before .before .before .before .before .before .before .before .before .before .before .before .before .before .before .four-at .ensures) (c .before .before .before .before .before .before .before .before .before .before .before .before .before .before .before .before .before .before .before .before .before .before .before .four-at2 .ensures) (c .before .before .before .before .before .before .before .before .before .before .before .before .before .before .before .before .before .before .before .before .before .four-at3 .ensures) (c .before .before .before .before .before .before .before .before .before .before .before .before .before .before .before .before .before .before .before .four-at4 .ensures) (c .before .before .before .before .before .before .before .before .before .before .before .before .before .before .before .before .four-at5 .ensures) (c .before .before .before .before .before .before .before .before .before .before .before .before .before .before .four-at6 .ensures) (c .before .before .before .before .before .before .before .before .before .before .before .before .four-at7 .ensures) (c .before .before .before .before .before .before .before .before .before .before .four-at8 .ensures) (c .before .before .before .before .before .before .before .four-at9 .ensures) (c .before .before .before .before .before .four-at10 .ensures) (c .before .before .before .four-at11 .ensures) (c .before .four-at12 .ensures)
-    )
+    let P3 = c .before .before .before in
+    let P2 = P3 .before .before .before .before .before .before .before .before .before in
+    let P1 = P2 .before .before .before .before .before .before .before .before .before in
+    rw (P1 .picked .ensures, P2 .picked2 .ensures, P3 .picked3 .ensures, c .where-eq .ensures)
+    (rows-are 8 _ _ _ _ _ _ _ _ _ _ _ _ _ _
+    (P1 .before .before .before .before .before .before .before .four-at .ensures) (P1 .before .before .before .before .before .four-at2 .ensures) (P1 .before .before .before .four-at3 .ensures) (P1 .before .four-at4 .ensures)
+    (P2 .before .before .before .before .before .before .before .four-at5 .ensures) (P2 .before .before .before .before .before .four-at6 .ensures) (P2 .before .before .before .four-at7 .ensures) (P2 .before .four-at8 .ensures)
+    (P3 .before .before .before .before .before .before .before .four-at9 .ensures) (P3 .before .before .before .before .before .four-at10 .ensures) (P3 .before .before .before .four-at11 .ensures) (P3 .before .four-at12 .ensures)
+    (c .before .four-at13 .ensures))
 
 pub rows-high-spec : {M : Type 1} → statement M
 rows-high-spec =
@@ -89,4 +102,6 @@ rows-high-spec =
     four-at-requires-11
     four-at-requires-12
     picked-requires-3
+    four-at-requires-13
+    where-eq-requires
     returns)
