@@ -9,9 +9,9 @@ use borrow.Author.Tests.{eq-eqb, ne-eqb}
 use lib.ListN.{length, getD, set, length-set, replicate, length-replicate}
 use lib.Seq.{getD-set-same, getD-set-other}
 use Rattle.grid.proofs.CellLaws.{zeros}
-use Rattle.theory.specs.Line.{occurs, joins}
+use Rattle.theory.specs.Line.{IsPair, occurs, joins}
 use Rattle.theory.proofs.LineLaws.{occurs-append, occurs-cons-same, occurs-cons-other, occurs-nil}
-use Rattle.takes.specs.Waiting.{queueOf, total, IsPair, Waiting, Left, Idle}
+use Rattle.takes.specs.Waiting.{queueOf, total, Waiting, Left, Idle}
 
 pub total-set : (l : List ℕ) (i v : ℕ) → i < length l → total (set l i v) + getD l i 0 ≡ total l + v
 unfolding total

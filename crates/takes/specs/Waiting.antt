@@ -1,9 +1,9 @@
 -- How a ring of 1,024 places and 1,024 flags hold a waiting list. Inner functions cite this; the public statements do not. Assumes nothing.
 use mathlib.Core.Path.{_≡_}
 use mathlib.Core.List.{List, [], _∷_}
-use Prim.Native.Nat.{ℕ, zero, suc, _+_, _/_, _%_, _≤_, _<_}
+use Prim.Native.Nat.{ℕ, zero, suc, _+_, _%_, _≤_, _<_}
 use lib.ListN.{length, getD}
-use Rattle.theory.specs.Line.{occurs}
+use Rattle.theory.specs.Line.{IsPair, occurs}
 
 -- the l pairs in the ring from place h on
 unfoldable pub queueOf : List ℕ → ℕ → ℕ → List ℕ
@@ -13,10 +13,6 @@ queueOf ring h (suc l) = getD ring (h % 1024) 0 ∷ queueOf ring (suc h) l
 unfoldable pub total : List ℕ → ℕ
 total [] = 0
 total (x ∷ l) = x + total l
-
--- the number of a pair of two of n events
-abbrev pub IsPair : ℕ → ℕ → Type 0
-IsPair n p = (p / 32 < p % 32) × (p % 32 < n)
 
 -- the ring holds a list of pairs, l long from place h on, and a pair's flag says how often it waits: once or not at all
 pub record Waiting (n : ℕ) (ring flag : List ℕ) (h l : ℕ) : Type 0 where

@@ -6,10 +6,10 @@ ghost use Rattle.relation.specs.Composition.{converse};
 ghost use Rattle.grid.specs.Cells.{putBoth, Held};
 ghost use Rattle.theory.specs.Fair.{Fair};
 ghost use Rattle.theory.specs.Allen.{allen};
-ghost use Rattle.theory.specs.Line.{pairOf, joins};
+ghost use Rattle.theory.specs.Line.{pairOf, IsPair, joins};
 ghost use Rattle.theory.specs.Quick.{going, turns, run};
 ghost use Rattle.theory.specs.Cuts.{fromOf, toOf, cutAt};
-ghost use Rattle.takes.specs.Waiting.{IsPair, Left, Idle};
+ghost use Rattle.takes.specs.Waiting.{Left, Idle};
 ghost use Rattle.takes.specs.Steps.{Waits, waitingIn, Steps, FairIf, Sees, Cuts, Finds, ended};
 use relation::Rows;
 

@@ -9,11 +9,7 @@ use native.Mathlib.Decide.{ℕ-discrete}
 use borrow.Author.Tests.{eq-eqb, ne-eqb}
 use lib.ListN.{length, length-append}
 use Rattle.relation.specs.Sets.{digit}
-use Rattle.theory.specs.Line.{pairOf, occurs, joins}
-
--- the number of a pair of two of n events
-abbrev pub IsPair : ℕ → ℕ → Type 0
-IsPair n p = (p / 32 < p % 32) × (p % 32 < n)
+use Rattle.theory.specs.Line.{IsPair, pairOf, occurs, joins}
 
 pub occurs-append : (p : ℕ) (q r : List ℕ) → occurs p (q ++ r) ≡ occurs p q + occurs p r
 unfolding occurs

@@ -13,13 +13,13 @@ use Rattle.grid.proofs.CellLaws.{putBoth-length}
 use Rattle.theory.specs.Calculus.{Calculus, Sub}
 use Rattle.theory.specs.Closing.{Closing}
 use Rattle.theory.specs.Fair.{Fair}
-use Rattle.theory.specs.Line.{pairOf, allPairs}
+use Rattle.theory.specs.Line.{IsPair, pairOf, allPairs}
 use Rattle.theory.specs.Sweeps.{Distinct, value, Shrinks, Cuts, none, more, DeadEnd, weight, Progress}
 use Rattle.theory.proofs.ClosingLaws.{IsCut, reached-closed, mirror-cut}
 use Rattle.theory.proofs.KeepLaws.{Good, put-cut, is-cut, good-shrank, good-dead}
 use Rattle.theory.proofs.FairLaws.{fair-good, good-fair}
 use Rattle.theory.proofs.Lawful.{Lawful, EqLawful}
-use Rattle.theory.proofs.LineLaws.{IsPair, pair-number, pair-low, pair-same, pair-swap}
+use Rattle.theory.proofs.LineLaws.{pair-number, pair-low, pair-same, pair-swap}
 use Rattle.theory.proofs.SettledLaws.{Via, closed-apart}
 use Rattle.theory.proofs.StartLaws.{pairs-all, waits-all}
 use Rattle.theory.proofs.TakeLaws.{Sized, sum-falls}

@@ -8,13 +8,13 @@ use native.Mathlib.Decide.{ℕ-discrete}
 use Rattle.grid.specs.Cells.{cell, putBoth}
 use Rattle.theory.specs.Calculus.{Calculus, Sub}
 use Rattle.theory.specs.Closing.{Closed, Closing}
-use Rattle.theory.specs.Line.{joins, pairOf, occurs}
+use Rattle.theory.specs.Line.{IsPair, joins, pairOf, occurs}
 use Rattle.theory.specs.Quick.{cutTo, Out, dead, going, andThen, cut, cutBack, turn, turns, take, run, goOn, Ended, contradiction, closed, paused}
 use Rattle.theory.specs.Sweeps.{Distinct}
 use Rattle.theory.proofs.ClosingLaws.{IsCut, cut-within, mirror-cut, reached-closed, sub-trans, sub-meet-r}
 use Rattle.theory.proofs.KeepLaws.{Good, Came, same, emptied, shrank, came, is-cut, good-shrank, good-dead}
 use Rattle.theory.proofs.Lawful.{Lawful, EqLawful}
-use Rattle.theory.proofs.LineLaws.{IsPair, joins-keeps, joins-here, joins-only, occurs-cons-same, occurs-cons-other, occurs-nil, pair-comm, pair-same, pair-swap, pair-second, pair-events, pair-ok}
+use Rattle.theory.proofs.LineLaws.{joins-keeps, joins-here, joins-only, occurs-cons-same, occurs-cons-other, occurs-nil, pair-comm, pair-same, pair-swap, pair-second, pair-events, pair-ok}
 use Rattle.theory.proofs.QuickLaws.{turn-skip-i, turn-skip-j, turn-is}
 
 -- (a, b) lies inside what (a, c) with (c, b) allows

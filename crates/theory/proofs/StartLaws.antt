@@ -8,8 +8,8 @@ use native.Mathlib.Omega.{arith}
 use native.Mathlib.Decide.{ℕ-discrete, decLt}
 use lib.ListN.{length, length-append}
 use Rattle.theory.specs.Calculus.{Calculus}
-use Rattle.theory.specs.Line.{pairOf, joins, occurs, rowTo, rowsTo, allPairs}
-use Rattle.theory.proofs.LineLaws.{IsPair, occurs-append, occurs-cons-same, occurs-cons-other, occurs-nil, pair-ok}
+use Rattle.theory.specs.Line.{IsPair, pairOf, joins, occurs, rowTo, rowsTo, allPairs}
+use Rattle.theory.proofs.LineLaws.{occurs-append, occurs-cons-same, occurs-cons-other, occurs-nil, pair-ok}
 use Rattle.theory.proofs.SettledLaws.{Settled, Pairs, Waits}
 
 snoc-cases : (x y : ℕ) (q : List ℕ) → 0 < occurs x (q ++ (y ∷ [])) → (0 < occurs x q) ⊎ (x ≡ y)

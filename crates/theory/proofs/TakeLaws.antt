@@ -9,13 +9,13 @@ use lib.ListN.{length}
 use Rattle.grid.specs.Cells.{cell, putBoth}
 use Rattle.grid.proofs.CellLaws.{putBoth-length}
 use Rattle.theory.specs.Calculus.{Calculus, Sub}
-use Rattle.theory.specs.Line.{joins, pairOf, occurs, allPairs}
+use Rattle.theory.specs.Line.{IsPair, joins, pairOf, occurs, allPairs}
 use Rattle.theory.specs.Quick.{cutTo, Out, dead, going, andThen, cut, turn, turns, take, run, goOn, Ended, contradiction, closed, paused}
 use Rattle.theory.specs.Sweeps.{Distinct, sum}
 use Rattle.theory.proofs.ClosingLaws.{IsCut, cut-within}
 use Rattle.theory.proofs.KeepLaws.{Good, Came, same, emptied, shrank, came, is-cut, good-shrank}
 use Rattle.theory.proofs.Lawful.{Lawful}
-use Rattle.theory.proofs.LineLaws.{IsPair, occurs-cons-same, occurs-cons-other, occurs-nil, pair-same, pair-swap, length-joins, pair-number, pair-low}
+use Rattle.theory.proofs.LineLaws.{occurs-cons-same, occurs-cons-other, occurs-nil, pair-same, pair-swap, length-joins, pair-number, pair-low}
 use Rattle.theory.proofs.QuickLaws.{turn-skip-i, turn-skip-j, turn-is}
 use Rattle.theory.proofs.SettledLaws.{Pairs, pairs-rest, Resting, Taken, take-ok, After, cut-ok}
 use Rattle.theory.proofs.StartLaws.{length-all, pairs-all, waits-all}

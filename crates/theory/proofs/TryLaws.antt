@@ -11,13 +11,13 @@ use Rattle.grid.specs.Cells.{cell, putBoth}
 use Rattle.theory.specs.Calculus.{Calculus, Sub}
 use Rattle.theory.specs.Closing.{Closed, Within}
 use Rattle.theory.specs.Fair.{Fair}
-use Rattle.theory.specs.Line.{pairOf, occurs, allPairs}
+use Rattle.theory.specs.Line.{IsPair, pairOf, occurs, allPairs}
 use Rattle.theory.specs.Quick.{going, turns, closed, paused, run}
 use Rattle.theory.proofs.Lawful.{Lawful, EqLawful}
 use Rattle.theory.proofs.ClosingLaws.{IsPut, put-within, sub-trans}
 use Rattle.theory.proofs.KeepLaws.{put-both}
 use Rattle.theory.proofs.FairLaws.{fair-good, put-fair}
-use Rattle.theory.proofs.LineLaws.{IsPair, occurs-cons-same, occurs-cons-other, occurs-nil, pair-same, pair-swap, pair-ok}
+use Rattle.theory.proofs.LineLaws.{occurs-cons-same, occurs-cons-other, occurs-nil, pair-same, pair-swap, pair-ok}
 use Rattle.theory.proofs.SettledLaws.{Settled, Served, Pairs, Resting, Right, run-ok}
 use Rattle.theory.proofs.StartLaws.{waits-all}
 use Rattle.theory.proofs.StepLaws.{turn-still, left-all, left-still, rest-all, rest-going, rest-closed}

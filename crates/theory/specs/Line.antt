@@ -1,13 +1,17 @@
 -- Document 01, "Quick closing": the waiting list. A pair of events has one number, smaller event first. Assumes nothing.
 use mathlib.Core.List.{List, [], _∷_, _++_}
 use mathlib.Core.Bool.{cond}
-use Prim.Native.Nat.{ℕ, zero, suc, _+_, _-_, _*_, min, max}
+use Prim.Native.Nat.{ℕ, zero, suc, _+_, _-_, _*_, _/_, _%_, _<_, min, max}
 use lib.Dec.{eqb}
 use Rattle.relation.specs.Sets.{digit}
 
 -- the number of the pair of a and b
 abbrev pub pairOf : ℕ → ℕ → ℕ
 pairOf a b = min a b * 32 + max a b
+
+-- p is the number of a pair of two of n events
+abbrev pub IsPair : ℕ → ℕ → Type 0
+IsPair n p = (p / 32 < p % 32) × (p % 32 < n)
 
 -- how often p waits
 unfoldable pub occurs : ℕ → List ℕ → ℕ
