@@ -6,28 +6,21 @@ use mathlib.Core.Bool.{Bool, true, false, _||_}
 use Prim.Native.Nat.{ℕ, _+_, _≤_, _<_}
 use native.Mathlib.Decide.{decLt}
 use native.Mathlib.Omega.{arith}
-use lib.Bits.{bitAnd, and-comm, and-self}
+use lib.Bits.{bitAnd}
 use lib.Count.{ones}
 use Rattle.relation.specs.Composition.{converse, compose}
 use Rattle.relation.specs.declared.Rows.{Rows}
-use Rattle.grid.specs.Cells.{cell, putBoth, Held}
+use Rattle.grid.specs.Cells.{cell, putBoth}
+use Rattle.grid.specs.Steps.{RowsAt}
 use Rattle.grid.proofs.CellLaws.{cell-both-other}
-use Rattle.theory.specs.Calculus.{Sub}
 use Rattle.theory.specs.Fair.{Fair}
 use Rattle.theory.specs.Allen.{allen}
 use Rattle.theory.specs.Sweeps.{Distinct, Progress, DeadEnd, Shrinks, none, value}
-use Rattle.theory.proofs.MeetLaws.{and-assoc}
-use Rattle.theory.proofs.AllenLaws.{sized, eq-lawful}
+use Rattle.theory.proofs.AllenLaws.{lawful, sized, eq-lawful}
 use Rattle.theory.proofs.PlainLaws.{progress-none, progress-one, progress-then}
-use Rattle.plain.specs.Routes.{OverTo, EventTo, AllTo, Sees, Still, StillUntil, Changes, Finds, Pass}
+use Rattle.plain.specs.Routes.{OverTo, EventTo, AllTo, Still, StillUntil, Changes, Finds, Pass}
 use Rattle.plain.specs.declared.Swept.{Swept}
 use Rattle.plain.specs.declared.Swept.the-variants.{Dead, Moved}
-
-meet-inside : (a b : ℕ) → bitAnd (bitAnd a b) a ≡ bitAnd a b
-meet-inside a b = and-comm (bitAnd a b) a ∙ sym (and-assoc a a b) ∙ ap (λ (x : ℕ). bitAnd x b) (and-self a)
-
-inside : (a b : ℕ) → Sub allen (allen .meet a b) a
-inside a b = meet-inside a b
 
 module _ (n : ℕ) (r : Swept) (S : ℕ → ℕ → ℕ → Type 0) (g g' : List ℕ) where
   pub pass-dead : Pass n S g r g' → r ≡ Dead → DeadEnd allen n g
@@ -39,7 +32,7 @@ module _ (n : ℕ) (r : Swept) (S : ℕ → ℕ → ℕ → Type 0) (g g' : List
 -- the next part of a sweep
 module _ (n : ℕ) (g g₁ g₂ : List ℕ) (c d : Bool) (F : Fair allen n g) where
   pub event-next : (b k : ℕ) → Progress allen ones n (EventTo n b k) g g₁ c → Progress allen ones n (OverTo n k b b) g₁ g₂ d → Progress allen ones n (EventTo n b (k + 1)) g g₂ (c || d)
-  event-next b k p q = progress-then allen inside ones sized n (F .fine .few) (EventTo n b k) (OverTo n k b b) g g₁ g₂ c d (F .fine .fits) p q (EventTo n b (k + 1)) into
+  event-next b k p q = progress-then allen lawful ones sized n (F .fine .few) (EventTo n b k) (OverTo n k b b) g g₁ g₂ c d (F .fine .fits) p q (EventTo n b (k + 1)) into
     where
       go : (x y z : ℕ) → EventTo n b (k + 1) x y z → Dec (y < k) → EventTo n b k x y z ⊎ OverTo n k b b x y z
       go x y z u (yes h) = inl (u .0, h, u .2, u .3)
@@ -49,7 +42,7 @@ module _ (n : ℕ) (g g₁ g₂ : List ℕ) (c d : Bool) (F : Fair allen n g) wh
       into x y z u = go x y z u (decLt y k)
 
   pub all-next : (k : ℕ) → Progress allen ones n (AllTo n k) g g₁ c → Progress allen ones n (EventTo n k n) g₁ g₂ d → Progress allen ones n (AllTo n (k + 1)) g g₂ (c || d)
-  all-next k p q = progress-then allen inside ones sized n (F .fine .few) (AllTo n k) (EventTo n k n) g g₁ g₂ c d (F .fine .fits) p q (AllTo n (k + 1)) into
+  all-next k p q = progress-then allen lawful ones sized n (F .fine .few) (AllTo n k) (EventTo n k n) g g₁ g₂ c d (F .fine .fits) p q (AllTo n (k + 1)) into
     where
       go : (x y z : ℕ) → AllTo n (k + 1) x y z → Dec (z < k) → AllTo n k x y z ⊎ EventTo n k n x y z
       go x y z u (yes h) = inl (u .0, h, u .2)
@@ -60,15 +53,15 @@ module _ (n : ℕ) (g g₁ g₂ : List ℕ) (c d : Bool) (F : Fair allen n g) wh
 
 -- routes that leave their cell as it is, or no routes at all
 pub nothing : (n : ℕ) (S : ℕ → ℕ → ℕ → Type 0) (g : List ℕ) → Fair allen n g → ((a m b : ℕ) → S a m b → value allen n g a m b ≡ cell n g a b) → Progress allen ones n S g g false
-nothing n S g F h = progress-none allen inside ones sized n (F .fine .few) S g h
+nothing n S g F h = progress-none allen lawful ones sized n (F .fine .few) S g h
 
 -- a cut after a part of a sweep
 pub then-cut : (n : ℕ) (S T : ℕ → ℕ → ℕ → Type 0) (g g₁ g₂ : List ℕ) (c : Bool) → Fair allen n g → Fair allen n g₁ → Progress allen ones n S g g₁ c → Shrinks allen n g₁ g₂
     → Progress allen ones n T g g₂ true
 then-cut n S T g g₁ g₂ c F F₁ p s =
     subst (Progress allen ones n T g g₂) (or-true c)
-    (progress-then allen inside ones sized n (F .fine .few) S T g g₁ g₂ c true (F .fine .fits) p
-    (progress-one allen inside ones sized n (F .fine .few) T g₁ g₂ (F₁ .fine .fits) s) T (λ x y z u. inr u))
+    (progress-then allen lawful ones sized n (F .fine .few) S T g g₁ g₂ c true (F .fine .fits) p
+    (progress-one allen lawful ones sized n (F .fine .few) T g₁ g₂ (F₁ .fine .fits) s) T (λ x y z u. inr u))
   where
     or-true : (c : Bool) → (c || true) ≡ true
     or-true true = refl
@@ -96,7 +89,7 @@ pub over-passed : (n m b k r : ℕ) (g g₁ : List ℕ) (c : Bool) → Fair alle
     → Progress allen ones n (OverTo n m b r) g g₁ c
 over-passed n m b k r g g₁ c F F₁ p w =
     subst (Progress allen ones n (OverTo n m b r) g g₁) (or-false c)
-    (progress-then allen inside ones sized n (F .fine .few) (OverTo n m b k) Between g g₁ g₁ c false (F .fine .fits) p
+    (progress-then allen lawful ones sized n (F .fine .few) (OverTo n m b k) Between g g₁ g₁ c false (F .fine .fits) p
     (nothing n Between g₁ F₁ (λ x y z u. rw (u .2, u .3) (w .each x (u .0) (u .1)))) (OverTo n m b r)
     (λ x y z u. go x y z u (decLt x k)))
   where
@@ -142,8 +135,8 @@ module _ (n m b a set : ℕ) (g : List ℕ) (F : Fair allen n g) (k : Changes n 
         }
 
     -- and it leaves the cell of which the rows are
-    pub sees-on : (rows : Rows) → Sees n m b g rows → Sees n m b g' rows
-    sees-on rows w =
+    pub rows-on : (rows : Rows) → RowsAt n m b g rows → RowsAt n m b g' rows
+    rows-on rows w =
         record {
           right = w .right;
           set = w .set

@@ -6,8 +6,6 @@ use mathlib.Core.List.{List}
 use Prim.Native.Nat.{ℕ, _*_, _≤_, _<_}
 use lib.Count.{ones}
 use lib.ListN.{replicate}
-use Rattle.relation.specs.Packed.{RowsOf}
-use Rattle.relation.specs.declared.Rows.{Rows}
 use Rattle.grid.specs.Cells.{cell, someEmpty}
 use Rattle.theory.specs.Allen.{allen}
 use Rattle.theory.specs.Sweeps.{Distinct, Cuts, DeadEnd, Progress, value}
@@ -27,11 +25,6 @@ EventTo n b k x y z = (x < z) × (y < k) × (z ≡ b) × Distinct n x z y
 -- to events below k, from events before them
 abbrev pub AllTo : ℕ → ℕ → ℕ → ℕ → ℕ → Type 0
 AllTo n k x y z = (x < z) × (z < k) × Distinct n x z y
-
--- these are the rows of (m, b)
-pub record Sees (n m b : ℕ) (g : List ℕ) (rows : Rows) : Type 0 where
-  pub right : RowsOf rows
-  pub set : rows .set ≡ cell n g m b
 
 -- the route from a over m to b leaves its cell as it is
 abbrev pub Still : ℕ → ℕ → ℕ → List ℕ → ℕ → Type 0

@@ -2,10 +2,11 @@
 ghost use Prim.Native.Nat.{_≤_, _<_};
 ghost use Rattle.grid.specs.Cells.{Held};
 ghost use Rattle.grid.specs.Accepted.{Accepted};
+ghost use Rattle.grid.specs.Steps.{RowsAt};
 ghost use Rattle.theory.specs.Fair.{Fair};
 ghost use Rattle.theory.specs.Allen.{allen};
 ghost use Rattle.plain.specs.Answers.{PlainCloses};
-ghost use Rattle.plain.specs.Routes.{OverTo, EventTo, AllTo, Sees, Finds, Pass, Sweeps};
+ghost use Rattle.plain.specs.Routes.{OverTo, EventTo, AllTo, Finds, Pass, Sweeps};
 use grid::Judged;
 use refusal::Refusal;
 use relation::Rows;
@@ -130,7 +131,7 @@ pub struct Found {
 
 // The first route over m to b from event k on that changes its cell, or event b. Most routes change nothing, and this only reads.
 fn next_route(rows: Rows, g: &[u16], n: usize, m: usize, b: usize, k: usize) -> Found
-    requires { ⌜ Sees n m b (now g) rows × (m < n) × (b < n) × (k ≤ b) × Held n (now g) ⌝ }
+    requires { ⌜ RowsAt n m b (now g) rows × (m < n) × (b < n) × (k ≤ b) × Held n (now g) ⌝ }
     ensures { λ r. ⌜ Finds n m b (now (g .entry)) k (r .from) (r .set) ⌝ }
 {
     let mut a = k;

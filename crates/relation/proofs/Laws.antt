@@ -10,11 +10,11 @@ use lib.ListN.{getD, List·getD-eq-default}
 use lib.Bits.{bitOr, or-lt}
 use Rattle.relation.specs.Comparing.{relOf}
 use Rattle.relation.specs.Meaning.{Event, holds, exchanged}
-use Rattle.relation.specs.Sets.{member, some, Inside}
+use Rattle.relation.specs.Sets.{member, Inside}
 use Rattle.relation.specs.Composition.{Composed, table, entry, converse, composeRow, compose}
-use Rattle.relation.proofs.Tested.{T-of, all, all-at, some-at}
+use Rattle.relation.proofs.Tested.{T-of, all, all-at}
 use Rattle.relation.proofs.Relations.{relOf-lt, exactly-one, exchanged-holds}
-use Rattle.relation.proofs.TableLaws.{agrees, stands}
+use Rattle.relation.proofs.TableLaws.{agrees, stands, middle, beside}
 use Rattle.relation.proofs.SetLaws.{member-none, member-mark, same-inside}
 use Rattle.relation.proofs.LowestLaws.{some-member}
 use Rattle.relation.proofs.UnionLaws.{union-lt, union-from, union-to, union-none, union-or}
@@ -212,22 +212,6 @@ compose-none-right a =
     (record { each = λ t h w. let f = compose-from a 0 t h w in absurd (subst T (member-none (f .s)) (f .s-in)) })
     (record { each = λ t h w. absurd (subst T (member-none t) w) })
 
-full-test : T (all 13 (λ r. ltb 0 (entry r 12)))
-unfolding entry
-full-test = tt
-
--- each of the thirteen holds of some two events
-record Held (r : ℕ) : Type 0 where
-  X : Event
-  Y : Event
-  is : holds r X Y
-
-held : (r : ℕ) → r < 13 → Held r
-held r h =
-    let w = some-member (entry r 12) (ltb→lt 0 (entry r 12) (all-at 13 (λ r. ltb 0 (entry r 12)) full-test r h)) (entry-lt r 12 h (lit< tt)) in
-    let c = agrees r 12 (w .0) h (lit< tt) (w .1) .0 (w .2) in
-    record { X = c .X; Y = c .Y; is = c .first }
-
 -- X and Y at the same place: a third event has to both the same relation
 same-place : (X Y Z : Event) → holds 12 X Y → relOf X Z ≡ relOf Y Z
 unfolding relOf
@@ -250,27 +234,27 @@ eq-second r t hr ht w =
 
 eq-first-in : (s : ℕ) → s < 13 → T (member s (entry 12 s))
 eq-first-in s h =
-    let p = held s h in
+    let p = beside s h in
     agrees 12 s s (lit< tt) h h .1
-    (record { X = p .X; Y = p .X; Z = p .Y; first = (refl, refl); second = p .is; whole = p .is })
+    (record { X = p .X; Y = p .X; Z = middle; first = (refl, refl); second = p .is; whole = p .is })
 
 eq-second-in : (r : ℕ) → r < 13 → T (member r (entry r 12))
 eq-second-in r h =
-    let p = held r h in
+    let p = beside r h in
     agrees r 12 r h (lit< tt) h .1
-    (record { X = p .X; Y = p .Y; Z = p .Y; first = p .is; second = (refl, refl); whole = p .is })
+    (record { X = p .X; Y = middle; Z = middle; first = p .is; second = (refl, refl); whole = p .is })
 
 -- X r Y and back again
 eq-between : (r : ℕ) → r < 13 → T (member 12 (entry r (exchanged r)))
 eq-between r h =
-    let p = held r h in
+    let p = beside r h in
     agrees r (exchanged r) 12 h (exchanged-lt r h) (lit< tt) .1
     (record {
       X = p .X;
-      Y = p .Y;
+      Y = middle;
       Z = p .X;
       first = p .is;
-      second = exchanged-holds (p .X) (p .Y) r (p .is);
+      second = exchanged-holds (p .X) middle r (p .is);
       whole = (refl, refl);
     })
 
@@ -309,14 +293,27 @@ compose-eq-right a l =
         let e = eq-second (f .r) t (f .r-lt) h (subst (λ (s : ℕ). T (member t (entry (f .r) s))) (is-eq (f .s) (f .s-lt) (f .s-in)) (f .stood)) in
         subst (λ (u : ℕ). T (member u a)) (sym e) (f .r-in)
 
--- whatever the other relation is, each relation is allowed by some
-all-left-test : T (all 13 (λ s. all 13 (λ t. some 13 (λ r. member t (entry r s)))))
-unfolding entry member some
-all-left-test = tt
+-- any two relations hold of two events to one: so each is allowed by some relation with the other
+allowed-left : (m t : ℕ) → m < 13 → t < 13 → (r : ℕ) × (r < 13) × T (member t (entry r m))
+allowed-left m t hm ht =
+    let Y = beside m hm in
+    let X = beside t ht in
+    let r = relOf (X .X) (Y .X) in (
+      r,
+      relOf-lt (X .X) (Y .X),
+      agrees r m t (relOf-lt (X .X) (Y .X)) hm ht .1
+          (record { X = X .X; Y = Y .X; Z = middle; first = exactly-one r (X .X) (Y .X) .1 refl; second = Y .is; whole = X .is }),
+    )
 
-all-right-test : T (all 13 (λ r. all 13 (λ t. some 13 (λ s. member t (entry r s)))))
-unfolding entry member some
-all-right-test = tt
+-- and turned round
+allowed-right : (m t : ℕ) → m < 13 → t < 13 → (s : ℕ) × (s < 13) × T (member t (entry m s))
+allowed-right m t hm ht =
+    let w = allowed-left (exchanged m) (exchanged t) (exchanged-lt m hm) (exchanged-lt t ht) in (
+      exchanged (w .0),
+      exchanged-lt (w .0) (w .1),
+      subst (λ (k : ℕ). T (member t (entry k (exchanged (w .0))))) (exchanged-twice m hm)
+          (turned (w .0) (exchanged m) t (w .1) (exchanged-lt m hm) ht (w .2)),
+    )
 
 all-test : T (all 13 (λ t. member t 8191))
 unfolding member
@@ -332,7 +329,7 @@ compose-all-left b nz l =
     (record {
       each = λ t h w.
           let m = some-member b (omega (arith, nz)) l in
-          let r = some-at 13 (λ r. member t (entry r (m .0))) (all-at 13 (λ t. some 13 (λ r. member t (entry r (m .0)))) (all-at 13 (λ s. all 13 (λ t. some 13 (λ r. member t (entry r s)))) all-left-test (m .0) (m .1)) t h) in
+          let r = allowed-left (m .0) t (m .1) h in
           compose-to 8191 b t h (record { r = r .0; s = m .0; r-lt = r .1; s-lt = m .1; r-in = all-there (r .0) (r .1); s-in = m .2; stood = r .2 });
     })
 
@@ -342,7 +339,7 @@ compose-all-right a nz l =
     (record {
       each = λ t h w.
           let m = some-member a (omega (arith, nz)) l in
-          let s = some-at 13 (λ s. member t (entry (m .0) s)) (all-at 13 (λ t. some 13 (λ s. member t (entry (m .0) s))) (all-at 13 (λ r. all 13 (λ t. some 13 (λ s. member t (entry r s)))) all-right-test (m .0) (m .1)) t h) in
+          let s = allowed-right (m .0) t (m .1) h in
           compose-to a 8191 t h (record { r = m .0; s = s .0; r-lt = m .1; s-lt = s .1; r-in = m .2; s-in = all-there (s .0) (s .1); stood = s .2 });
     })
 

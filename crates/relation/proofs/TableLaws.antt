@@ -4,12 +4,12 @@ use mathlib.Core.Logic.{_↔_}
 use mathlib.Core.Bool.{Bool, true, false, _&&_}
 use mathlib.Core.List.{List, [], _∷_}
 use Prim.Native.Nat.{ℕ, _<_}
-use lib.Dec.{T, ltb, eqb, eqb→eq, ltb→lt, lt→ltb}
+use lib.Dec.{T, ltb, eqb, eqb→eq, ltb→lt, lt→ltb, lit<}
 use lib.IntN.{ℤ, pos}
 use lib.Signed.{ltZ}
 use Rattle.relation.specs.Comparing.{order, relBy, relOf}
 use Rattle.relation.specs.Sets.{member, some}
-use Rattle.relation.specs.Meaning.{Event}
+use Rattle.relation.specs.Meaning.{Event, holds}
 use Rattle.relation.specs.Composition.{Composed, entry}
 use Rattle.relation.proofs.Order.{whole}
 use Rattle.relation.proofs.Rank.{rank, rank-lt, rank-keeps, In, here, there}
@@ -152,3 +152,26 @@ agrees r s t hr hs ht = (
   λ w. subst₃ (λ (t r s : ℕ). T (member t (entry r s))) (exactly-one t (w .X) (w .Z) .0 (w .whole))
       (exactly-one r (w .X) (w .Y) .0 (w .first)) (exactly-one s (w .Y) (w .Z) .0 (w .second)) (stands (w .X) (w .Y) (w .Z)),
 )
+
+-- ---- one event to which each relation holds of some event
+
+abbrev between : ℕ → ℕ → ℕ → Bool
+between r a b = eqb (relBy ltb a b 2 5) r
+
+beside-test : T (all 13 (λ r. anyPair 8 (between r)))
+unfolding some
+beside-test = tt
+
+pub middle : Event
+middle = event 2 5 (lit< tt)
+
+pub record Beside (r : ℕ) : Type 0 where
+  pub X : Event
+  pub is : holds r X middle
+
+pub beside : (r : ℕ) → r < 13 → Beside r
+unfolding middle
+beside r h =
+    let x = anyPair-at 8 (between r) (all-at 13 (λ r. anyPair 8 (between r)) beside-test r h) in
+    let X = event (x .0) (x .1) (x .2) in
+    record { X = X; is = exactly-one r X middle .1 (small (x .0) (x .1) 2 5 (x .2) (lit< tt) ∙ eqb→eq (relBy ltb (x .0) (x .1) 2 5) r (x .3)) }

@@ -23,7 +23,8 @@ use Rattle.theory.specs.Line.{pairOf, joins, occurs}
 use Rattle.theory.proofs.AllenLaws.{lawful}
 use Rattle.theory.proofs.FairLaws.{put-fair}
 use Rattle.theory.proofs.MeetLaws.{sub-top}
-use Rattle.theory.specs.Quick.{Out, dead, going, Ended, contradiction, goOn, run}
+use Rattle.theory.proofs.QuickLaws.{going-grid}
+use Rattle.theory.specs.Quick.{Out, going, Ended, contradiction, goOn, run}
 use Rattle.theory.specs.Search.{Pair, Tried, emptied, closed, Found, placed, none, gaveUp, orNext, turnOf, relationsFrom, row, rows, pairsFrom}
 use Rattle.placing.specs.Settling.{settles, Settled}
 use Rattle.search.specs.Rule.{enough, triedBy, tryAt}
@@ -132,13 +133,9 @@ try-is n i j r v g h q w e a b z f =
     ∙ ap (run allen n enough 0 (putBoth converse n g i j (2 ^ r))) (ap (joins (pairOf i j)) z ∙ joins-alone (pairOf i j)))
 
 -- the cell and its mirror cut to one relation, as they were written
-abbrev gridOf : Out → List ℕ
-gridOf dead = []
-gridOf (going g q) = g
-
-pub cut-fair : (n i j r v : ℕ) (g h q q' : List ℕ) → Fair allen n g → i < n → j < n → (i ≡ j → ⊥) → r < 13 → going h q ≡ going (putBoth converse n g i j v) q' → v ≡ 2 ^ r → Fair allen n h
-cut-fair n i j r v g h q q' F hi hj ne hr e m =
-    subst (Fair allen n) (sym (ap gridOf e ∙ ap (putBoth converse n g i j) m))
+pub written-fair : (n i j r v : ℕ) (g h q q' : List ℕ) → Fair allen n g → i < n → j < n → (i ≡ j → ⊥) → r < 13 → going h q ≡ going (putBoth converse n g i j v) q' → v ≡ 2 ^ r → Fair allen n h
+written-fair n i j r v g h q q' F hi hj ne hr e m =
+    subst (Fair allen n) (sym (going-grid _ _ _ _ e ∙ ap (putBoth converse n g i j) m))
     (put-fair allen lawful n g F i j hi hj ne (2 ^ r) (sub-top (2 ^ r) (omega (arith, mark-lt r hr))) (sub-top (converse (2 ^ r)) (omega (arith, converse-lt (2 ^ r))))
     (converse-twice (2 ^ r) (mark-lt r hr)) (λ z. omega (arith, pow-pos r, z)))
 

@@ -8,6 +8,7 @@ use lib.IntN.{ℤ}
 use lib.ListN.{length}
 use Rattle.grid.specs.Cells.{cell}
 use Rattle.grid.specs.Accepted.{Accepted}
+use Rattle.theory.specs.Fair.{Full}
 use Rattle.theory.specs.Allen.{allen}
 use Rattle.theory.specs.Closing.{Closed}
 use Rattle.theory.specs.Search.{Pair, Found, pastLast, pairsFrom}
@@ -45,7 +46,7 @@ pub record Settles (n t : ℕ) (g : List ℕ) (room : List ℤ) (l : Looked) (ro
 -- a grid that the search goes on from: accepted, with no empty cell, and closed
 pub record Searched (n : ℕ) (g : List ℕ) : Type 0 where
   pub accepted : Accepted n g
-  pub full : (i j : ℕ) → i < n → j < n → cell n g i j ≡ 0 → ⊥
+  pub full : Full n g
   pub closed : Closed allen n (cell n g)
 
 -- cell (i, j), or past the last, with so many cells left

@@ -18,7 +18,7 @@ use Rattle.theory.proofs.CutsLaws.{first-from, first-via, first-to, second-from
 use Rattle.theory.proofs.AllenLaws.{lawful, past-first, past-second}
 use Rattle.theory.proofs.FairLaws.{fair-good}
 use Rattle.takes.specs.Waiting.{queueOf}
-use Rattle.takes.specs.Steps.{seen, Sound, Steps, FairIf, Quiet, Cuts, Passes, Finds, Waits, waitingIn}
+use Rattle.takes.specs.Steps.{seen, Sound, Steps, FairIf, Quiet, Changes, Passes, Finds, Waits, waitingIn}
 use Rattle.takes.specs.declared.Line.{Line}
 use Rattle.takes.specs.declared.Cut.{Cut}
 use Rattle.takes.specs.declared.Cut.the-variants.{Dead, Going}
@@ -38,8 +38,8 @@ module _ (n i j k : ℕ) (g : List ℕ) (F : Fair allen n g) (hi : i < n) (hj : 
             cut-at-still allen n i j (k * 2) g q
             (rw (first-from i j k, first-via i j k, first-to i j k) (turned-still allen lawful n i j k hi hj hk g g (fair-good allen lawful n g F) u (sym left ∙ e ∙ read)))
 
-    pub first-cuts : (x ≡ y → ⊥) → (s : ℕ) → s ≡ converse x → Cuts n i j g (k * 2) s
-    first-cuts ne s t =
+    pub first-changes : (x ≡ y → ⊥) → (s : ℕ) → s ≡ converse x → Changes n i j g (k * 2) s
+    first-changes ne s t =
         record {
           left = λ u. rw (first-from i j k, first-via i j k, first-to i j k) (t ∙ ap converse left ∙ turned-cut allen lawful n i j k hi hj hk g g (fair-good allen lawful n g F) (λ z. u (same-place ∙ z)));
           less = λ u. rw (first-from i j k, first-to i j k) (λ z. turned-less allen lawful n i j k hi hj hk g g (fair-good allen lawful n g F) (λ m. u (same-place ∙ m)) (λ m. ne (left ∙ m ∙ sym read)) (sym (t ∙ ap converse left ∙ turned-cut allen lawful n i j k hi hj hk g g (fair-good allen lawful n g F) (λ m. u (same-place ∙ m))) ∙ z));
@@ -50,8 +50,8 @@ module _ (n i j k : ℕ) (g : List ℕ) (F : Fair allen n g) (hi : i < n) (hj : 
     second-quiet e q =
         cut-at-still allen n i j (k * 2 + 1) g q (rw (second-from i j k, second-via i j k, second-to i j k) (sym left ∙ e ∙ read))
 
-    pub second-cuts : (x ≡ y → ⊥) → Cuts n i j g (k * 2 + 1) x
-    second-cuts ne =
+    pub second-changes : (x ≡ y → ⊥) → Changes n i j g (k * 2 + 1) x
+    second-changes ne =
         record { left = λ u. rw (second-from i j k, second-via i j k, second-to i j k) left; less = λ u. rw (second-from i j k, second-to i j k) (λ e. ne (e ∙ sym read)) }
 
 -- the cuts that change nothing, at first none and then one more
@@ -65,7 +65,7 @@ module _ (n i j : ℕ) (g : List ℕ) (c : ℕ) where
   pub finds-end : (r : ℕ) → n * 2 ≤ r → Passes n i j g c r → Finds n i j g c (n * 2) 0
   finds-end r h p =
       let e : r ≡ n * 2 = omega (arith, p .within) in
-      record { passes = subst (Passes n i j g c) e p; cuts = λ l. absurd (omega arith) }
+      record { passes = subst (Passes n i j g c) e p; changes = λ l. absurd (omega arith) }
 
 -- a pair of which nothing is said: its take changes nothing
 module _ (n i j : ℕ) (g : List ℕ) (F : Fair allen n g) (hi : i < n) (hj : j < n) (all : cell n g i j ≡ 8191) where
@@ -86,12 +86,12 @@ module _ (n i j : ℕ) (g : List ℕ) (c r set : ℕ) (f : Finds n i j g ((c / 2
       let b : c / 2 * 2 + 1 ≡ c = omega arith in
       let p : Passes n i j g (c + 1) r = subst (λ (d : ℕ). Passes n i j g d r) e (f .passes) in
       let one : Passes n i j g c (c + 1) = passes-more n i j g c c l (passes-none n i j g c (omega arith)) (subst (Quiet n i j g) b s) in
-      record { passes = record { from = omega (arith, p .from); within = p .within; same = λ q. one .same q ∙ p .same q }; cuts = f .cuts }
+      record { passes = record { from = omega (arith, p .from); within = p .within; same = λ q. one .same q ∙ p .same q }; changes = f .changes }
 
-pub odd-found : (n i j : ℕ) (g : List ℕ) (c set : ℕ) → c % 2 ≡ 1 → c ≤ n * 2 → Cuts n i j g (c / 2 * 2 + 1) set → Finds n i j g c c set
+pub odd-found : (n i j : ℕ) (g : List ℕ) (c set : ℕ) → c % 2 ≡ 1 → c ≤ n * 2 → Changes n i j g (c / 2 * 2 + 1) set → Finds n i j g c c set
 odd-found n i j g c set h l k =
     let b : c / 2 * 2 + 1 ≡ c = omega arith in
-    record { passes = passes-none n i j g c l; cuts = λ _. subst (λ (d : ℕ). Cuts n i j g d set) b k }
+    record { passes = passes-none n i j g c l; changes = λ _. subst (λ (d : ℕ). Changes n i j g d set) b k }
 
 pub found-below : (n i j : ℕ) (g : List ℕ) (c r set : ℕ) → Finds n i j g c r set → (r ≡ n * 2 → ⊥) → r < n * 2
 found-below n i j g c r set f ne = omega (arith, f .passes .within, ne)
@@ -105,7 +105,7 @@ module _ (n i j c : ℕ) (ni : c / 2 ≡ i → ⊥) (nj : c / 2 ≡ j → ⊥) w
       go (yes e) = rw (eq-eqb (c % 2) 0 e) (hi, omega arith, λ x. ni (sym x))
       go (no e) = rw (ne-eqb (c % 2) 0 e) (omega arith, hj, nj)
 
-  module _ (g q : List ℕ) (set : ℕ) (k : Cuts n i j g c set) where
+  module _ (g q : List ℕ) (set : ℕ) (k : Changes n i j g c set) where
     cut-to-set : cutAt allen n i j c g q ≡ shrunk allen n (fromOf i c) (toOf j c) (cell n g (fromOf i c) (toOf j c)) set g q
     unfolding cut
     cut-to-set = cut-made allen n i j c g q ni nj ∙ ap (λ (v : ℕ). shrunk allen n (fromOf i c) (toOf j c) (cell n g (fromOf i c) (toOf j c)) v g q) (sym (k .left ni))

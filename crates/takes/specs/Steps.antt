@@ -3,9 +3,9 @@ use mathlib.Core.Path.{_≡_}
 use mathlib.Core.List.{List}
 use Prim.Native.Nat.{ℕ, _*_, _/_, _≤_, _<_}
 use lib.ListN.{length}
-use Rattle.relation.specs.Packed.{RowsOf}
 use Rattle.relation.specs.declared.Rows.{Rows}
 use Rattle.grid.specs.Cells.{cell}
+use Rattle.grid.specs.Steps.{RowsAt}
 use Rattle.theory.specs.Fair.{Fair}
 use Rattle.theory.specs.Allen.{allen}
 use Rattle.theory.specs.Quick.{Out, dead, going, cutTo, Ended, contradiction, closed, paused}
@@ -45,17 +45,15 @@ FairIf n (Going l) g = Fair allen n g
 
 -- the rows of (i, j) and of (j, i)
 pub record Sees (n i j : ℕ) (g : List ℕ) (v w : Rows) : Type 0 where
-  pub there : RowsOf v
-  pub set : v .set ≡ cell n g i j
-  pub back : RowsOf w
-  pub mirror : w .set ≡ cell n g j i
+  pub there : RowsAt n i j g v
+  pub back : RowsAt n j i g w
 
 -- cut c in the take of (i, j) changes nothing, whatever waits
 abbrev pub Quiet : ℕ → ℕ → ℕ → List ℕ → ℕ → Type 0
 Quiet n i j g c = (q : List ℕ) → cutAt allen n i j c g q ≡ going g q
 
--- cut c leaves this set of its cell, and that is less, where it is made
-pub record Cuts (n i j : ℕ) (g : List ℕ) (c set : ℕ) : Type 0 where
+-- cut c changes its cell, where it is made: it leaves this set
+pub record Changes (n i j : ℕ) (g : List ℕ) (c set : ℕ) : Type 0 where
   pub left : (c / 2 ≡ i → ⊥) → set ≡ cutTo allen (cell n g) (fromOf i c) (viaOf i j c) (toOf j c)
   pub less : (c / 2 ≡ i → ⊥) → set ≡ cell n g (fromOf i c) (toOf j c) → ⊥
 
@@ -68,7 +66,7 @@ pub record Passes (n i j : ℕ) (g : List ℕ) (c r : ℕ) : Type 0 where
 -- cut r is the first from c on that changes something, or r is n * 2
 pub record Finds (n i j : ℕ) (g : List ℕ) (c r set : ℕ) : Type 0 where
   pub passes : Passes n i j g c r
-  pub cuts : r < n * 2 → Cuts n i j g r set
+  pub changes : r < n * 2 → Changes n i j g r set
 
 -- how a run ended, with its grid
 abbrev pub ended : End → List ℕ → Ended

@@ -10,7 +10,7 @@ ghost use Rattle.theory.specs.Line.{pairOf, IsPair, joins};
 ghost use Rattle.theory.specs.Quick.{going, turns, run};
 ghost use Rattle.theory.specs.Cuts.{fromOf, toOf, cutAt};
 ghost use Rattle.takes.specs.Waiting.{Left, Idle};
-ghost use Rattle.takes.specs.Steps.{Waits, waitingIn, Steps, FairIf, Sees, Cuts, Finds, ended};
+ghost use Rattle.takes.specs.Steps.{Waits, waitingIn, Steps, FairIf, Sees, Changes, Finds, ended};
 use relation::Rows;
 
 // The waiting list: it starts at head in the ring and is len pairs long.
@@ -154,7 +154,7 @@ fn make_cut(
     c: usize,
     set: u16,
 ) -> Cut
-    requires { ⌜ (i < n) × (j < n) × (i ≡ j → ⊥) × (c < n * 2) × Held n (now g) × Waits n (now ring) (now flag) l × Cuts n i j (now g) c set ⌝ }
+    requires { ⌜ (i < n) × (j < n) × (i ≡ j → ⊥) × (c < n * 2) × Held n (now g) × Waits n (now ring) (now flag) l × Changes n i j (now g) c set ⌝ }
     ensures { λ r. ⌜ Steps n (cutAt allen n i j c (now (g .entry)) (waitingIn (now (ring .entry)) l)) r (now (g .exit)) (now (ring .exit)) (now (flag .exit)) ⌝ }
 {
     let k = c / 2;

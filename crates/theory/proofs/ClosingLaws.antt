@@ -36,7 +36,7 @@ module _ (A : Calculus) (L : Lawful A) where
   sub-antisym : (a b : ℕ) → Sub A a b → Sub A b a → a ≡ b
   sub-antisym a b p q = cc (L .meet-comm a b)
 
-  sub-meet-l : (a b : ℕ) → Sub A (A .meet a b) a
+  pub sub-meet-l : (a b : ℕ) → Sub A (A .meet a b) a
   sub-meet-l a b = cc (L .meet-comm (A .meet a b) a, L .meet-assoc a a b, L .meet-self a)
 
   pub sub-meet-r : (a b : ℕ) → Sub A (A .meet a b) b

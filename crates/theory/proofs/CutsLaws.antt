@@ -1,6 +1,6 @@
 -- A take, cut by cut: what is left of it, done from here, is the whole. Assumes nothing.
 use mathlib.Core.Path.{_≡_, refl, ap, sym, _∙_, subst}
-use mathlib.Core.List.{List, []}
+use mathlib.Core.List.{List}
 use Prim.Native.Nat.{ℕ, zero, suc, _+_, _-_, _*_, _/_, _%_, _<_}
 use native.Mathlib.Omega.{arith}
 use native.Mathlib.Decide.{ℕ-discrete}
@@ -12,7 +12,7 @@ use Rattle.theory.specs.Cuts.{fromOf, viaOf, toOf, cutAt, cuts, cutsFrom
 use Rattle.theory.proofs.Lawful.{Lawful}
 use Rattle.theory.proofs.ClosingLaws.{mirror-cut, mirror-back}
 use Rattle.theory.proofs.KeepLaws.{Good, Came, same, emptied, shrank, came, is-cut, good-shrank}
-use Rattle.theory.proofs.QuickLaws.{cut-still, turn-is, turn-skip-i, turn-skip-j}
+use Rattle.theory.proofs.QuickLaws.{going-grid, cut-still, turn-is, turn-skip-i, turn-skip-j}
 
 -- the first cut at k, and the second
 module _ (i j k : ℕ) where
@@ -146,10 +146,6 @@ pub record Keeps (A : Calculus) (n i j : ℕ) (g₀ g g' : List ℕ) : Type 0 wh
   pub pair : cell n g' i j ≡ cell n g i j
   pub mirror : cell n g' j i ≡ cell n g j i
 
-abbrev gridOf : Out → List ℕ
-gridOf dead = []
-gridOf (going g q) = g
-
 abbrev tag : Out → ℕ
 tag dead = 0
 tag (going g q) = 1
@@ -163,11 +159,11 @@ module _ (A : Calculus) (L : Lawful A) (n i j : ℕ) (hi : i < n) (hj : j < n) (
   keeps-cut a m b ha hm hb apart p r q g' q' e = go (cut A n a m b g q) (came A n a m b g q) e
     where
       go : (o : Out) → Came A n a m b g q o → o ≡ going g' q' → Keeps A n i j g₀ g g'
-      go _ (same s) f = keeps-same g' (ap gridOf f)
+      go _ (same s) f = keeps-same g' (going-grid _ _ _ _ f)
       go _ (emptied z) f = absurd (let y : _≡_ {A = ℕ} 0 1 = ap tag f in omega arith)
       go _ (shrank less some) f =
           let c = is-cut A L n g₀ g G a m b ha hm hb apart in
-          subst (Keeps A n i j g₀ g) (ap gridOf f)
+          subst (Keeps A n i j g₀ g) (going-grid _ _ _ _ f)
           (record {
             good = good-shrank A L n g₀ g G a m b ha hm hb apart some;
             pair = c .rest i j hi hj p r;
@@ -178,8 +174,8 @@ module _ (A : Calculus) (L : Lawful A) (n i j : ℕ) (hi : i < n) (hj : j < n) (
   keeps-at c hc q g' q' e = go (ℕ-discrete (c / 2) i) (ℕ-discrete (c / 2) j)
     where
       go : Dec (c / 2 ≡ i) → Dec (c / 2 ≡ j) → Keeps A n i j g₀ g g'
-      go (yes u) v = keeps-same g' (ap gridOf (sym (cut-skip-i A n i j c g q u) ∙ e))
-      go (no u) (yes v) = keeps-same g' (ap gridOf (sym (cut-skip-j A n i j c g q u v) ∙ e))
+      go (yes u) v = keeps-same g' (going-grid _ _ _ _ (sym (cut-skip-i A n i j c g q u) ∙ e))
+      go (no u) (yes v) = keeps-same g' (going-grid _ _ _ _ (sym (cut-skip-j A n i j c g q u v) ∙ e))
       go (no u) (no v) = made (ℕ-discrete (c % 2) 0)
         where
           made : Dec (c % 2 ≡ 0) → Keeps A n i j g₀ g g'

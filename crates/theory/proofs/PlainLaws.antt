@@ -10,12 +10,12 @@ use native.Mathlib.Decide.{decLt}
 use lib.ListN.{length}
 use Rattle.grid.specs.Cells.{cell, putBoth}
 use Rattle.grid.proofs.CellLaws.{putBoth-length}
-use Rattle.theory.specs.Calculus.{Calculus, Sub}
+use Rattle.theory.specs.Calculus.{Calculus}
 use Rattle.theory.specs.Closing.{Closing}
 use Rattle.theory.specs.Fair.{Fair}
 use Rattle.theory.specs.Line.{IsPair, pairOf, allPairs}
 use Rattle.theory.specs.Sweeps.{Distinct, value, Shrinks, Cuts, none, more, DeadEnd, weight, Progress}
-use Rattle.theory.proofs.ClosingLaws.{IsCut, reached-closed, mirror-cut}
+use Rattle.theory.proofs.ClosingLaws.{IsCut, sub-meet-l, reached-closed, mirror-cut}
 use Rattle.theory.proofs.KeepLaws.{Good, put-cut, is-cut, good-shrank, good-dead}
 use Rattle.theory.proofs.FairLaws.{fair-good, good-fair}
 use Rattle.theory.proofs.Lawful.{Lawful, EqLawful}
@@ -28,7 +28,7 @@ pub cuts-trans : (A : Calculus) (n : ℕ) (g g₁ : List ℕ) {g₂ : List ℕ} 
 cuts-trans A n g g₁ p none = p
 cuts-trans A n g g₁ p (more q s) = more (cuts-trans A n g g₁ p q) s
 
-module _ (A : Calculus) (inside : (a b : ℕ) → Sub A (A .meet a b) a) (size : ℕ → ℕ) (Z : Sized A size) (n : ℕ) (few : n ≤ 32) where
+module _ (A : Calculus) (L : Lawful A) (size : ℕ → ℕ) (Z : Sized A size) (n : ℕ) (few : n ≤ 32) where
   shrinks-less : (g g' : List ℕ) → n * n ≤ length g → Shrinks A n g g' → weight size n g' < weight size n g
   shrinks-less g g' fits s =
       rw (s .is)
@@ -59,7 +59,7 @@ module _ (A : Calculus) (inside : (a b : ℕ) → Sub A (A .meet a b) a) (size :
       here : size (cell n h (pairOf a b / 32) (pairOf a b % 32)) + 1 ≤ size (cell n g (pairOf a b / 32) (pairOf a b % 32))
       here =
           rw (first, second, c .here)
-          (omega (arith, Z .less (value A n g (s .a) (s .m) (s .b)) (cell n g (s .a) (s .b)) (inside _ _) (s .less)))
+          (omega (arith, Z .less (value A n g (s .a) (s .m) (s .b)) (cell n g (s .a) (s .b)) (sub-meet-l A L _ _) (s .less)))
 
       elsewhere : (p : ℕ) → IsPair n p → (p ≡ pairOf a b → ⊥) → size (cell n h (p / 32) (p % 32)) ≤ size (cell n g (p / 32) (p % 32))
       elsewhere p ok np =

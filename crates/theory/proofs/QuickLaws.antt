@@ -1,12 +1,20 @@
 -- How a cut and a turn go, case by case. Assumes nothing.
-use mathlib.Core.Path.{_≡_}
-use mathlib.Core.List.{List}
+use mathlib.Core.Path.{_≡_, ap}
+use mathlib.Core.List.{List, []}
 use Prim.Native.Nat.{ℕ}
 use borrow.Author.Tests.{eq-eqb, ne-eqb}
 use Rattle.grid.specs.Cells.{cell, putBoth}
 use Rattle.theory.specs.Calculus.{Calculus}
 use Rattle.theory.specs.Line.{joins, pairOf}
-use Rattle.theory.specs.Quick.{cutTo, dead, going, andThen, shrunk, cut, cutBack, turn}
+use Rattle.theory.specs.Quick.{cutTo, Out, dead, going, andThen, shrunk, cut, cutBack, turn}
+
+-- the grid of a step that goes on
+pub going-grid : (g g' q q' : List ℕ) → going g q ≡ going g' q' → g ≡ g'
+going-grid g g' q q' e = ap gridOf e
+  where
+    gridOf : Out → List ℕ
+    gridOf dead = []
+    gridOf (going h r) = h
 
 module _ (A : Calculus) (n a b old v : ℕ) (g q : List ℕ) where
   pub shrunk-same : v ≡ old → shrunk A n a b old v g q ≡ going g q

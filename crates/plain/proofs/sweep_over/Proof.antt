@@ -3,12 +3,13 @@ use mathlib.Core.Path.{_≡_, sym, _∙_, subst}
 use Prim.Native.Nat.{ℕ, _≤_, _-_}
 use lib.Count.{ones}
 use lib.ListN.{length}
+use Rattle.grid.specs.Steps.{RowsAt}
 use Rattle.theory.specs.Allen.{allen}
 use Rattle.theory.specs.Sweeps.{Progress}
 use Rattle.theory.proofs.AllenLaws.{lawful, past-second}
 use Rattle.theory.proofs.PlainLaws.{cuts-fair, dead-then}
-use Rattle.plain.specs.Routes.{OverTo, Sees}
-use Rattle.plain.proofs.RouteLaws.{nothing, then-cut, over-passed, found-below, dead-end, shrinks, sees-on}
+use Rattle.plain.specs.Routes.{OverTo}
+use Rattle.plain.proofs.RouteLaws.{nothing, then-cut, over-passed, found-below, dead-end, shrinks, rows-on}
 use borrow.Author.Needs.{needs}
 use native.Mathlib.Omega.{arith}
 use Rattle.plain.proofs.sweep_over.Statement.{statement}
@@ -16,7 +17,7 @@ use Rattle.plain.proofs.sweep_over.Tie as tie
 
 abbrev Inv-loop : tie.InvT-loop
 Inv-loop g₀ n m b half rows changed₀ k₀ g changed k =
-    (k ≤ b) × (length g ≡ length g₀) × Progress allen ones n (OverTo n m b k) g₀ g changed × Sees n m b g rows
+    (k ≤ b) × (length g ≡ length g₀) × Progress allen ones n (OverTo n m b k) g₀ g changed × RowsAt n m b g rows
 
 abbrev μ-loop : tie.MeasureT-loop
 μ-loop g₀ n m b half rows changed₀ k₀ g changed k = b - k
@@ -107,7 +108,7 @@ loop-again c =
       omega (arith, h),
       search needs,
       then-cut _ _ _ _ _ _ _ (s .2) G (L .inv .2) cut,
-      sees-on _ _ _ _ _ _ G (N .changes h) h (s .0) (s .1) (I .if1 .left) _ (W .put-both .ensures) _ (L .inv .3),
+      rows-on _ _ _ _ _ _ G (N .changes h) h (s .0) (s .1) (I .if1 .left) _ (W .put-both .ensures) _ (L .inv .3),
     )
 
 pub sweep-over-spec : {M : Type 1} → statement M

@@ -1,6 +1,6 @@
 -- The cell is cut, and the pair alone waits.
 use Rattle.takes.proofs.WaitingLaws.{empty-queue}
-use Rattle.search.proofs.RuleLaws.{cut-fair, try-is}
+use Rattle.search.proofs.RuleLaws.{written-fair, try-is}
 use borrow.Author.Needs.{needs}
 use Rattle.search.proofs.attempt.Statement.{statement}
 use Rattle.search.proofs.attempt.Tie as tie
@@ -15,7 +15,7 @@ takes-requires : tie.Need-takes-requires
 takes-requires c κs =
     let W = c .before .before .before .before .before in
     let s = W .before .before .before .before .before .before .pre in
-    (cut-fair _ _ _ _ _ _ _ _ _ (s .1) (s .2) (s .3) (s .4) (s .5) (W .write-cut .ensures .0) (W .before .mark .ensures), W .write-cut .ensures .1)
+    (written-fair _ _ _ _ _ _ _ _ _ (s .1) (s .2) (s .3) (s .4) (s .5) (W .write-cut .ensures .0) (W .before .mark .ensures), W .write-cut .ensures .1)
 
 same-length : tie.Need-same-length
 same-length c = search needs

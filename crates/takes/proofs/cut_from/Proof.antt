@@ -3,7 +3,7 @@ use mathlib.Core.Path.{_≡_, subst}
 use Prim.Native.Nat.{_+_, _-_, _*_, _≤_}
 use Rattle.theory.proofs.AllenLaws.{left-is}
 use Rattle.takes.specs.Steps.{Passes}
-use Rattle.takes.proofs.StepsLaws.{first-quiet, first-cuts, second-quiet, second-cuts, passes-none, passes-more, finds-end}
+use Rattle.takes.proofs.StepsLaws.{first-quiet, first-changes, second-quiet, second-changes, passes-none, passes-more, finds-end}
 use native.Mathlib.Omega.{arith}
 use borrow.Author.Needs.{needs}
 use Rattle.takes.proofs.cut_from.Statement.{statement}
@@ -25,7 +25,7 @@ get-requires-2 : tie.Need-get-requires-2 Inv-loop μ-loop
 get-requires-2 c κs = search needs
 
 compose-by-requires : tie.Need-compose-by-requires Inv-loop μ-loop
-compose-by-requires c κs = c .before .before .before .before .before .pre .0 .back
+compose-by-requires c κs = c .before .before .before .before .before .pre .0 .back .right
 
 mul-t15 : tie.Need-mul-t15 Inv-loop μ-loop
 mul-t15 c = search needs
@@ -40,11 +40,11 @@ returns c =
     let s = T .before .before .before .pre in
     record {
       passes = T .before .loop .inv .2;
-      cuts = λ h. first-cuts _ _ _ _ _ (s .4) (s .1) (s .2) (T .loop-test .taken) _ _ (left-is _ _ _ _ _ _ _ _ _ (F .before .before .get .ensures) (F .before .get2 .ensures) (s .0 .mirror) (F .compose-by .ensures)) (F .before .before .get .ensures) (c .before .if1 .taken) _ (c .converse-of .ensures);
+      changes = λ h. first-changes _ _ _ _ _ (s .4) (s .1) (s .2) (T .loop-test .taken) _ _ (left-is _ _ _ _ _ _ _ _ _ (F .before .before .get .ensures) (F .before .get2 .ensures) (s .0 .back .set) (F .compose-by .ensures)) (F .before .before .get .ensures) (c .before .if1 .taken) _ (c .converse-of .ensures);
     }
 
 compose-by-requires-2 : tie.Need-compose-by-requires-2 Inv-loop μ-loop
-compose-by-requires-2 c κs = c .before .before .before .before .before .before .before .pre .0 .there
+compose-by-requires-2 c κs = c .before .before .before .before .before .before .before .pre .0 .there .right
 
 mul-t17 : tie.Need-mul-t17 Inv-loop μ-loop
 mul-t17 c = search needs
@@ -60,8 +60,8 @@ returns-2 c =
     let ki = F .before .before .get .ensures in
     let kj = F .before .get2 .ensures in
     record {
-      passes = passes-more _ _ _ _ _ _ (omega (arith, T .loop-test .taken)) (T .before .loop .inv .2) (first-quiet _ _ _ _ _ (s .4) (s .1) (s .2) (T .loop-test .taken) _ _ (left-is _ _ _ _ _ _ _ _ _ ki kj (s .0 .mirror) (F .compose-by .ensures)) ki (c .before .before .if1 .left));
-      cuts = λ h. second-cuts _ _ _ _ _ (s .4) (s .1) (s .2) (T .loop-test .taken) _ _ (left-is _ _ _ _ _ _ _ _ _ kj ki (s .0 .set) (c .before .compose-by2 .ensures)) kj (c .if2 .taken);
+      passes = passes-more _ _ _ _ _ _ (omega (arith, T .loop-test .taken)) (T .before .loop .inv .2) (first-quiet _ _ _ _ _ (s .4) (s .1) (s .2) (T .loop-test .taken) _ _ (left-is _ _ _ _ _ _ _ _ _ ki kj (s .0 .back .set) (F .compose-by .ensures)) ki (c .before .before .if1 .left));
+      changes = λ h. second-changes _ _ _ _ _ (s .4) (s .1) (s .2) (T .loop-test .taken) _ _ (left-is _ _ _ _ _ _ _ _ _ kj ki (s .0 .there .set) (c .before .compose-by2 .ensures)) kj (c .if2 .taken);
     }
 
 add-k : tie.Need-add-k Inv-loop μ-loop
@@ -79,8 +79,8 @@ loop-again c =
     let ki = F .before .before .get .ensures in
     let kj = F .before .get2 .ensures in
     let test = T .loop-test .taken in
-    let first = passes-more _ _ _ _ _ _ (omega (arith, test)) (L .inv .2) (first-quiet _ _ _ _ _ (s .4) (s .1) (s .2) test _ _ (left-is _ _ _ _ _ _ _ _ _ ki kj (s .0 .mirror) (F .compose-by .ensures)) ki (c .before .before .if1 .left)) in
-    let second = passes-more _ _ _ _ _ _ (omega (arith, test)) first (second-quiet _ _ _ _ _ (s .4) (s .1) (s .2) test _ _ (left-is _ _ _ _ _ _ _ _ _ kj ki (s .0 .set) (c .before .compose-by2 .ensures)) kj (c .if2 .left)) in
+    let first = passes-more _ _ _ _ _ _ (omega (arith, test)) (L .inv .2) (first-quiet _ _ _ _ _ (s .4) (s .1) (s .2) test _ _ (left-is _ _ _ _ _ _ _ _ _ ki kj (s .0 .back .set) (F .compose-by .ensures)) ki (c .before .before .if1 .left)) in
+    let second = passes-more _ _ _ _ _ _ (omega (arith, test)) first (second-quiet _ _ _ _ _ (s .4) (s .1) (s .2) test _ _ (left-is _ _ _ _ _ _ _ _ _ kj ki (s .0 .there .set) (c .before .compose-by2 .ensures)) kj (c .if2 .left)) in
     let e : L .k * 2 + 1 + 1 ≡ (L .k + 1) * 2 = omega arith in
     (omega (arith, L .inv .0), omega (arith, test), subst (Passes _ _ _ _ _) e second)
 

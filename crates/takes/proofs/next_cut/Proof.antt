@@ -1,7 +1,7 @@
 -- An odd cut is looked at by itself, and the rest from the next event on.
 use mathlib.Core.Logic.{⊎-elim}
 use Rattle.theory.proofs.AllenLaws.{left-is}
-use Rattle.takes.proofs.StepsLaws.{second-cuts, second-quiet, odd-found, odd-finds, even-finds}
+use Rattle.takes.proofs.StepsLaws.{second-changes, second-quiet, odd-found, odd-finds, even-finds}
 use native.Mathlib.Omega.{arith}
 use borrow.Author.Needs.{needs}
 use Rattle.takes.proofs.next_cut.Statement.{statement}
@@ -23,7 +23,7 @@ returns c =
     let ki = c .before .before .before .get .ensures in
     let kj = c .before .before .get2 .ensures in
     odd-found _ _ _ _ _ _ odd (s .3)
-    (second-cuts _ _ _ _ _ (s .4) (s .1) (s .2) (omega (arith, odd, s .3)) _ _ (left-is _ _ _ _ _ _ _ _ _ kj ki (s .0 .set) (c .before .compose-by .ensures)) kj (c .if2 .taken))
+    (second-changes _ _ _ _ _ (s .4) (s .1) (s .2) (omega (arith, odd, s .3)) _ _ (left-is _ _ _ _ _ _ _ _ _ kj ki (s .0 .there .set) (c .before .compose-by .ensures)) kj (c .if2 .taken))
 
 add-cut-from : tie.Need-add-cut-from
 add-cut-from c = search needs
@@ -36,7 +36,7 @@ returns-2 c =
     let s = c .before .before .before .pre in
     ⊎-elim
     (λ w. odd-finds _ _ _ _ _ _ _ (c .cut-from .ensures) (w .0 .taken) (omega (arith, w .0 .taken, s .3))
-    (second-quiet _ _ _ _ _ (s .4) (s .1) (s .2) (omega (arith, w .0 .taken, s .3)) _ _ (left-is _ _ _ _ _ _ _ _ _ (w .2 .ensures) (w .1 .ensures) (s .0 .set) (w .3 .ensures)) (w .2 .ensures) (w .4 .left)))
+    (second-quiet _ _ _ _ _ (s .4) (s .1) (s .2) (omega (arith, w .0 .taken, s .3)) _ _ (left-is _ _ _ _ _ _ _ _ _ (w .2 .ensures) (w .1 .ensures) (s .0 .there .set) (w .3 .ensures)) (w .2 .ensures) (w .4 .left)))
     (λ w. even-finds _ _ _ _ _ _ _ (c .cut-from .ensures) (w .left))
     (c .before .if1 .came)
 

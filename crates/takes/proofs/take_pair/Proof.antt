@@ -49,7 +49,7 @@ loop-holds c =
     let s = c .before .before .before .before .before .before .before .before .pre in
     let v = c .before .before .before .rows-of .ensures in
     let w = c .rows-of2 .ensures in
-    (omega arith, search needs, s .4, cuts-all _ _ _ _ _ _, fair-good _ lawful _ _ (s .3), record { there = v .1; set = v .0 ∙ c .before .before .before .before .before .get .ensures; back = w .1; mirror = w .0 ∙ c .before .get2 .ensures })
+    (omega arith, search needs, s .4, cuts-all _ _ _ _ _ _, fair-good _ lawful _ _ (s .3), record { there = record { right = v .1; set = v .0 ∙ c .before .before .before .before .before .get .ensures }; back = record { right = w .1; set = w .0 ∙ c .before .get2 .ensures } })
 
 next-cut-requires : tie.Need-next-cut-requires Inv-loop μ-loop
 next-cut-requires c κs =
@@ -76,7 +76,7 @@ make-cut-requires c κs =
     let v = F .before .before .before .loop .inv in
     let s = F .before .before .before .before .before .before .before .before .before .before .before .before .pre in
     let h = found-below _ _ _ _ _ _ _ N (F .if2 .left) in
-    (s .0, s .1, s .2, h, record { few = s .3 .fine .few; fits = v .4 .fits }, v .2, N .cuts h)
+    (s .0, s .1, s .2, h, record { few = s .3 .fine .few; fits = v .4 .fits }, v .2, N .changes h)
 
 enum-known-one : tie.Need-enum-known-one Inv-loop μ-loop
 enum-known-one c = search needs
@@ -123,7 +123,10 @@ loop-again c =
       is-sound _ _ _ _ _ _ (M .make-cut .ensures) _ one,
       sym (cuts-going _ _ _ _ _ _ _ h _ _ went) ∙ sym (N .passes .same _) ∙ v .3,
       K .good,
-      record { there = v .5 .there; set = v .5 .set ∙ sym (K .pair); back = v .5 .back; mirror = v .5 .mirror ∙ sym (K .mirror) },
+      record {
+        there = record { right = v .5 .there .right; set = v .5 .there .set ∙ sym (K .pair) };
+        back = record { right = v .5 .back .right; set = v .5 .back .set ∙ sym (K .mirror) };
+      },
     )
 
 pub take-pair-spec : {M : Type 1} → statement M
