@@ -1,14 +1,35 @@
 -- Where a cell stands, and what a put changes. Assumes nothing.
 use mathlib.Core.Path.{_≡_, refl, ap, sym, _∙_}
-use mathlib.Core.List.{List, _++_}
+use mathlib.Core.List.{List, [], _∷_, _++_}
 use Prim.Native.Nat.{ℕ, zero, suc, _+_, _*_, _/_, _%_, _≤_, _<_}
 use native.Mathlib.Nat.{mul-le-mul, zero-lt-suc, mod-lt, div-add-mod', div-lt-iff-lt-mul}
 use native.Mathlib.Numerals.{add-one}
+use native.Mathlib.Decide.{decLt}
 use native.Mathlib.Omega.{arith}
 use lib.Arith.{digits-lt, digits-div, digits-mod}
-use lib.ListN.{length, getD, set, length-set, take, drop, replicate}
-use lib.Seq.{getD-set-same, getD-set-other, length-take-le, take-suc, drop-cons, append-snoc, set-at, set-getD, take-at, take-all}
-use Rattle.grid.specs.Cells.{cell, put, putBoth}
+use lib.ListN.{length, getD, set, length-set, take, drop, replicate, length-append, List·getD-append}
+use lib.Seq.{getD-at, getD-set-same, getD-set-other, length-take-le, take-suc, drop-cons, append-snoc, set-at, set-getD, take-at, take-all}
+use Rattle.grid.specs.Cells.{upTo, cell, put, putBoth}
+
+-- ---- a list by its entries
+
+pub upTo-length : (k : ℕ) (f : ℕ → ℕ) → length (upTo k f) ≡ k
+unfolding upTo
+upTo-length zero f = refl
+upTo-length (suc k) f = omega (arith, length-append (upTo k f) (f k ∷ []), upTo-length k f)
+
+pub upTo-at : (k : ℕ) (f : ℕ → ℕ) (p : ℕ) → p < k → getD (upTo k f) p 0 ≡ f p
+unfolding upTo
+upTo-at zero f p h = absurd (omega arith)
+upTo-at (suc k) f p h = by (upTo-length k f) (upTo-at k f p) (decLt p k)
+  where
+    by : length (upTo k f) ≡ k → (p < k → getD (upTo k f) p 0 ≡ f p) → Dec (p < k) → getD (upTo k f ++ f k ∷ []) p 0 ≡ f p
+    by n r (yes g) = List·getD-append (upTo k f) (f k ∷ []) 0 p (omega arith) ∙ r g
+    by n r (no g) =
+        let e : p ≡ k = omega arith in
+        rw e (getD-at (upTo k f) (f k) [] 0 k n)
+
+-- ---- cells
 
 -- a cell's place is inside, and small
 pub record Place (n i j : ℕ) : Type 0 where

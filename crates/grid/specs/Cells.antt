@@ -1,10 +1,15 @@
 -- Document 01, "Grids": a grid of n events is a list of sets; cell (i, j) is at place i * n + j. Assumes nothing.
 use mathlib.Core.Bool.{Bool}
-use mathlib.Core.List.{List}
-use Prim.Native.Nat.{ℕ, _+_, _*_, _≤_}
+use mathlib.Core.List.{List, [], _∷_, _++_}
+use Prim.Native.Nat.{ℕ, zero, suc, _+_, _*_, _≤_}
 use lib.Dec.{eqb}
 use lib.ListN.{length, getD, set}
 use Rattle.relation.specs.Sets.{some}
+
+-- f 0, f 1, .. up to f (k - 1)
+unfoldable pub upTo : ℕ → (ℕ → ℕ) → List ℕ
+upTo zero f = []
+upTo (suc k) f = upTo k f ++ f k ∷ []
 
 -- the set for i to j
 unfoldable pub cell : ℕ → List ℕ → ℕ → ℕ → ℕ

@@ -1,3 +1,4 @@
 pub mod Cells
 pub mod Accepted
+pub mod Meets
 pub mod Steps

@@ -15,7 +15,8 @@ use Rattle.relation.proofs.Tested.{T-of, of-T, some-no}
 use Rattle.relation.proofs.Relations.{relBy-lt, relOf-lt, exactly-one, holds-found}
 use Rattle.grid.specs.Cells.{cell}
 use Rattle.grid.proofs.AcceptedLaws.{none-passes}
-use Rattle.placing.specs.Placing.{Meets, at, Places, MeetsAt}
+use Rattle.grid.specs.Meets.{Meets}
+use Rattle.placing.specs.Placing.{at, Places, MeetsAt}
 use Rattle.placing.specs.Checking.{late, someLate}
 use Rattle.placing.specs.Settling.{relationAt, missed, rowMissed, someMissed}
 use Rattle.placing.proofs.CountLaws.{some-same}

@@ -19,7 +19,8 @@ use Rattle.relation.proofs.Tested.{T-of, of-T, and-left, and-right}
 use Rattle.relation.proofs.Rank.{Weak}
 use Rattle.relation.proofs.Order.{whole}
 use Rattle.relation.proofs.SetLaws.{member-mark}
-use Rattle.placing.specs.Placing.{Meets, at, MeetsAt, NoGaps, Scenario}
+use Rattle.grid.specs.Meets.{Meets}
+use Rattle.placing.specs.Placing.{at, MeetsAt, NoGaps, Scenario}
 use Rattle.placing.specs.Checking.{someLate}
 use Rattle.placing.specs.Settling.{earlier, before, count, endsBefore, endNumber, gaplessEnd, listOf, placingOf, someMissed, settles, Settled}
 use Rattle.placing.proofs.CountLaws.{count-same, count-keeps}

@@ -1,19 +1,14 @@
--- Document 01, "The work" and "Looking for a placing": what a placing is, when it meets a grid, and when it has no gaps. Assumes nothing.
+-- Document 01, "The work" and "Looking for a placing": numbers that give a placing, and when they have no gaps. Assumes nothing.
 use mathlib.Core.Path.{_≡_}
 use mathlib.Core.List.{List}
 use Prim.Native.Nat.{ℕ, _+_, _*_, _^_, _<_}
-use lib.Dec.{T}
 use lib.ListN.{length, getD}
 use lib.IntN.{ℤ, pos, negsuc}
 use lib.Signed.{_≤ℤ_}
-use Rattle.relation.specs.Meaning.{Event, holds}
-use Rattle.relation.specs.Sets.{member}
+use Rattle.relation.specs.Meaning.{Event}
 use Rattle.relation.specs.Composition.{converse}
 use Rattle.grid.specs.Cells.{cell}
-
--- a placing, of whole numbers of any size, meets every cell of a grid
-pub record Meets (n : ℕ) (g : List ℕ) (P : ℕ → Event) : Type 0 where
-  pub each : (i j : ℕ) → i < n → j < n → (r : ℕ) × (r < 13) × T (member r (cell n g i j)) × holds r (P i) (P j)
+use Rattle.grid.specs.Meets.{Meets}
 
 -- number p of a list
 abbrev pub at : List ℤ → ℕ → ℤ

@@ -8,12 +8,13 @@ use lib.IntN.{pos}
 use lib.ListN.{length, replicate, length-append}
 use Rattle.relation.specs.Meaning.{Event}
 use Rattle.grid.specs.Accepted.{Accepted}
+use Rattle.grid.specs.Meets.{Meets}
 use Rattle.sheet.specs.Sheet.{Statement, accepted, sheet}
 use Rattle.sheet.specs.Grid.{gridOf}
 use Rattle.sheet.proofs.FitLaws.{sheet-fits}
 use Rattle.sheet.proofs.GridLaws.{grid-accepted}
 use Rattle.theory.specs.Search.{placed, none}
-use Rattle.placing.specs.Placing.{Meets, at, naturalOf}
+use Rattle.placing.specs.Placing.{at, naturalOf}
 use Rattle.placing.specs.Settling.{placingOf}
 use Rattle.placing.proofs.SettleLaws.{placing-at}
 use Rattle.search.specs.Rule.{searchOf}

@@ -17,6 +17,7 @@ use Rattle.relation.proofs.Rank.{In as Among, here, there}
 use Rattle.relation.proofs.Relations.{holds-found}
 use Rattle.grid.specs.Cells.{cell, someEmpty}
 use Rattle.grid.specs.Accepted.{Accepted}
+use Rattle.grid.specs.Meets.{Meets}
 use Rattle.theory.specs.Allen.{allen}
 use Rattle.theory.specs.Closing.{Closing}
 use Rattle.theory.specs.Line.{allPairs, rowsTo}
@@ -32,7 +33,7 @@ use Rattle.theory.proofs.PlacedLaws.{Uses, uses-more, closing-uses, empty-unuse
 use Rattle.theory.proofs.SearchLaws as search
 use Rattle.quick.specs.Answers.{quickRule}
 use Rattle.quick.proofs.RuleLaws.{rule-empty, rule-run, rule-right, rule-bound}
-use Rattle.placing.specs.Placing.{Meets, Places}
+use Rattle.placing.specs.Placing.{Places}
 use Rattle.placing.specs.Settling.{settles, placingOf}
 use Rattle.placing.proofs.SettleLaws.{settled-meets, placing-gapless}
 use Rattle.search.specs.Rule.{enough, thereAt, triedBy, tryAt, searchAt, searchOf, fromClosed}

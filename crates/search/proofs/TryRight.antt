@@ -21,6 +21,7 @@ use Rattle.relation.proofs.SetLaws.{mark-lt}
 use Rattle.relation.proofs.Relations.{relOf-lt, exactly-one, holds-found}
 use Rattle.relation.proofs.ExchangeLaws.{exchanged-lt, relOf-back, converse-twice, converse-mark}
 use Rattle.grid.specs.Cells.{cell, putBoth}
+use Rattle.grid.specs.Meets.{Meets}
 use Rattle.grid.proofs.CellLaws.{putBoth-same, cell-both-here, cell-both-mirror, cell-both-other}
 use Rattle.theory.specs.Allen.{allen}
 use Rattle.theory.specs.Closing.{Closed, Closing, Within}
@@ -38,7 +39,7 @@ use Rattle.theory.proofs.SettledLaws.{Right, LeavesGood, run-good}
 use Rattle.theory.proofs.TryLaws.{try-nothing, cut-inside, resting, try-right, try-ends}
 use Rattle.theory.proofs.PlacedLaws.{member-only, mark-inside, inside-mark, only-mark, Uses, uses-more, closing-uses, empty-unused}
 use Rattle.theory.proofs.SearchLaws.{Searchable}
-use Rattle.placing.specs.Placing.{Meets, Scenario}
+use Rattle.placing.specs.Placing.{Scenario}
 use Rattle.placing.specs.Settling.{settles}
 use Rattle.placing.proofs.SettleLaws.{settled-meets, unsettled-none}
 use Rattle.search.specs.Rule.{enough, thereAt, triedBy, tryAt}

@@ -10,8 +10,9 @@ use lib.ListN.{length}
 use Rattle.refusal.specs.Numbers.{numberOf}
 use Rattle.relation.specs.Meaning.{Event, holds}
 use Rattle.grid.specs.Accepted.{cellRefusal, firstOf}
+use Rattle.grid.specs.Meets.{Meets}
 use Rattle.theory.specs.Search.{Pair, Found, placed, none, gaveUp, pairsFrom}
-use Rattle.placing.specs.Placing.{Meets, Places, MeetsAt, NoGaps}
+use Rattle.placing.specs.Placing.{Places, MeetsAt, NoGaps}
 use Rattle.placing.specs.Checking.{lengthRefusal}
 use Rattle.placing.specs.Settling.{placingOf}
 use Rattle.search.specs.Rule.{searchOf}

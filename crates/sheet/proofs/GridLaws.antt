@@ -1,42 +1,26 @@
 -- The grid of a sheet's statements is accepted by every function on grids; it stands in the front of a longer room. Assumes nothing.
 use mathlib.Core.Path.{_≡_, refl, sym, _∙_, ap}
 use mathlib.Core.Bool.{cond}
-use mathlib.Core.List.{List, [], _∷_, _++_}
-use Prim.Native.Nat.{ℕ, zero, suc, _+_, _*_, _≤_, _<_}
+use mathlib.Core.List.{List, [], _∷_}
+use Prim.Native.Nat.{ℕ, _+_, _*_, _≤_, _<_}
 use native.Mathlib.Omega.{arith}
-use native.Mathlib.Decide.{decLt, ℕ-discrete}
+use native.Mathlib.Decide.{ℕ-discrete}
 use lib.Arith.{digits-lt, digits-div, digits-mod}
 use lib.Bits.{bitAnd, and-le-l}
 use lib.Dec.{eqb}
-use lib.ListN.{length, take, getD, set, length-append, List·getD-append}
-use lib.Seq.{getD-at, getD-take, take-set-lt}
+use lib.ListN.{length, take}
+use lib.Seq.{getD-take, take-set-lt}
 use borrow.Author.Tests.{eq-eqb, ne-eqb}
 use Rattle.relation.specs.Composition.{converse}
 use Rattle.relation.proofs.ExchangeLaws.{converse-lt, converse-twice, converse-eq, converse-all}
 use Rattle.grid.specs.Cells.{cell, put, putBoth}
 use Rattle.grid.specs.Accepted.{Accepted}
-use Rattle.grid.proofs.CellLaws.{putBoth-length, cell-both-here, cell-both-mirror, cell-both-other}
+use Rattle.grid.proofs.CellLaws.{upTo-length, upTo-at, putBoth-length, cell-both-here, cell-both-mirror, cell-both-other}
 use Rattle.sheet.specs.Sheet.{Statement, mostEvents}
-use Rattle.sheet.specs.Grid.{upTo, startCell, startGrid, cutBy, cutAll, gridOf}
+use Rattle.sheet.specs.Grid.{startCell, startGrid, cutBy, cutAll, gridOf}
 use Rattle.sheet.proofs.FitLaws.{Fits, AllFit}
 
 -- ---- the start
-
-upTo-length : (k : ℕ) (f : ℕ → ℕ) → length (upTo k f) ≡ k
-unfolding upTo
-upTo-length zero f = refl
-upTo-length (suc k) f = omega (arith, length-append (upTo k f) (f k ∷ []), upTo-length k f)
-
-upTo-at : (k : ℕ) (f : ℕ → ℕ) (p : ℕ) → p < k → getD (upTo k f) p 0 ≡ f p
-unfolding upTo
-upTo-at zero f p h = absurd (omega arith)
-upTo-at (suc k) f p h = by (upTo-length k f) (upTo-at k f p) (decLt p k)
-  where
-    by : length (upTo k f) ≡ k → (p < k → getD (upTo k f) p 0 ≡ f p) → Dec (p < k) → getD (upTo k f ++ f k ∷ []) p 0 ≡ f p
-    by n r (yes g) = List·getD-append (upTo k f) (f k ∷ []) 0 p (omega arith) ∙ r g
-    by n r (no g) =
-        let e : p ≡ k = omega arith in
-        rw e (getD-at (upTo k f) (f k) [] 0 k n)
 
 start-length : (n : ℕ) → length (startGrid n) ≡ n * n
 unfolding startGrid

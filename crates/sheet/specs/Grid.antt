@@ -1,17 +1,12 @@
 -- Document 01, "Sheets": the grid of a list of statements. Assumes nothing.
 use mathlib.Core.Bool.{cond}
-use mathlib.Core.List.{List, [], _∷_, _++_}
-use Prim.Native.Nat.{ℕ, zero, suc, _*_, _/_, _%_}
+use mathlib.Core.List.{List, [], _∷_}
+use Prim.Native.Nat.{ℕ, _*_, _/_, _%_}
 use lib.Bits.{bitAnd}
 use lib.Dec.{eqb}
 use Rattle.relation.specs.Composition.{converse}
-use Rattle.grid.specs.Cells.{cell, putBoth}
+use Rattle.grid.specs.Cells.{upTo, cell, putBoth}
 use Rattle.sheet.specs.Sheet.{Statement}
-
--- f 0, f 1, .. up to f (k - 1)
-unfoldable pub upTo : ℕ → (ℕ → ℕ) → List ℕ
-upTo zero f = []
-upTo (suc k) f = upTo k f ++ f k ∷ []
 
 -- a pair starts as any, and an event to itself as {eq}: place p is that of cell (p / n, p % n)
 abbrev pub startCell : ℕ → ℕ → ℕ

@@ -5,7 +5,7 @@ use Prim.Native.Nat.{ℕ}
 use Rattle.relation.specs.Sets.{member, setBelow, setOf, some, unionOver}
 use Rattle.relation.specs.Meaning.{exchanged}
 use Rattle.relation.specs.Composition.{converse, table, entry, composeRow, compose}
-use Rattle.grid.specs.Cells.{cell, put, putBoth}
+use Rattle.grid.specs.Cells.{upTo, cell, put, putBoth}
 use Rattle.theory.specs.Line.{occurs, joins, rowTo, rowsTo, allPairs}
 use Rattle.theory.specs.Quick.{shrunk, cut, turn, turns, take, run}
 use Rattle.quick.specs.Answers.{quickRule}
@@ -13,7 +13,7 @@ use Rattle.text.specs.Text.{isNumber}
 use Rattle.text.specs.Names.{isName, sameName}
 use Rattle.words.specs.Words.{words, meaning}
 use Rattle.sheet.specs.Sheet.{Statement, Outcome, accepted, isEntry, isStatement, owners, bodies, contents, sheet}
-use Rattle.sheet.specs.Grid.{upTo, startGrid, cutBy, cutAll, gridOf}
+use Rattle.sheet.specs.Grid.{startGrid, cutBy, cutAll, gridOf}
 use Rattle.shown.proofs.Worked.{set, closes, closing, closingOf, mill, worked, printed}
 
 -- the sheet's three events, and its statements: flood {d} mill, wedding {b,m} flood

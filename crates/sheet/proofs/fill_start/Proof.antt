@@ -8,7 +8,8 @@ use native.Mathlib.Numerals.{add-one}
 use lib.ListN.{length, take, length-set}
 use lib.Seq.{take-suc-set}
 use Rattle.sheet.specs.Sheet.{mostEvents}
-use Rattle.sheet.specs.Grid.{upTo, startCell, startGrid}
+use Rattle.grid.specs.Cells.{upTo}
+use Rattle.sheet.specs.Grid.{startCell, startGrid}
 use Rattle.sheet.proofs.fill_start.Statement.{statement}
 use Rattle.sheet.proofs.fill_start.Tie as tie
 
