@@ -47,7 +47,7 @@ is-listOf k f xs l e =
     ext-getD (pos 0) xs (listOf k f) (l ∙ sym (listOf-length k f))
     (λ p h. let m : p < k = omega (arith, l) in e p m ∙ sym (listOf-at k f p m))
 
-placing-length : (n : ℕ) (g : List ℕ) → length (placingOf n g) ≡ 2 * n
+pub placing-length : (n : ℕ) (g : List ℕ) → length (placingOf n g) ≡ 2 * n
 unfolding placingOf
 placing-length n g = listOf-length (2 * n) (gaplessEnd n g)
 

@@ -1,5 +1,5 @@
 -- Between two placed events exactly one of the thirteen relations holds. Assumes nothing.
-use mathlib.Core.Path.{_≡_, sym, ap, ap₂, _∙_, subst}
+use mathlib.Core.Path.{_≡_, refl, sym, ap, ap₂, _∙_, subst}
 use mathlib.Core.Logic.{_↔_}
 use mathlib.Core.Bool.{Bool}
 use Prim.Native.Nat.{ℕ, zero, suc, _<_}
@@ -127,6 +127,10 @@ module _ (X Y : Event) where
 -- exactly one of the thirteen holds
 pub exactly-one : (t : ℕ) (X Y : Event) → holds t X Y ↔ (relOf X Y ≡ t)
 exactly-one t X Y = (holds-is′ X Y t, λ e. subst (λ (r : ℕ). holds r X Y) e (holds-found X Y))
+
+-- an event to itself is eq
+pub relOf-self : (X : Event) → relOf X X ≡ 12
+relOf-self X = exactly-one 12 X X .0 (refl, refl)
 
 -- ---- exchanged
 

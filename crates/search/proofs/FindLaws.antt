@@ -1,8 +1,9 @@
 -- From the code's answers to the public statement. Assumes nothing.
-use mathlib.Core.Path.{_≡_, refl, sym, ap, _∙_}
-use mathlib.Core.Bool.{true, false}
+use mathlib.Core.Path.{_≡_, refl, sym, ap, subst, _∙_}
+use mathlib.Core.Logic.{_⊎_, inl, inr}
+use mathlib.Core.Bool.{Bool, true, false}
 use mathlib.Core.List.{List}
-use Prim.Native.Nat.{ℕ, _*_}
+use Prim.Native.Nat.{ℕ, _*_, _≤_}
 use native.Mathlib.Omega.{arith}
 use borrow.Author.Tests.{eq-eqb, ne-eqb}
 use lib.Dec.{eqb}
@@ -15,41 +16,39 @@ use Rattle.grid.specs.Cells.{someEmpty}
 use Rattle.grid.specs.Accepted.{Accepted, cellRefusal}
 use Rattle.grid.proofs.AcceptedLaws.{accepted, first-none, size-fine}
 use Rattle.theory.specs.Allen.{allen}
-use Rattle.theory.specs.Line.{allPairs}
-use Rattle.theory.specs.Quick as quick
-use Rattle.theory.specs.Search.{Tried, Found, none}
+use Rattle.theory.specs.Search.{Tried, emptied, closed, closesTo, Found, placed, none, gaveUp, pairsFrom}
+use Rattle.theory.specs.Tried.{triedBy}
 use Rattle.takes.specs.Steps.{ended}
 use Rattle.takes.specs.declared.End.{End}
 use Rattle.takes.specs.declared.End.the-variants.{Closed}
-use Rattle.quick.proofs.RuleLaws.{rule-empty, rule-run}
+use Rattle.theory.proofs.SearchLaws.{triesOf, tries-within}
+use Rattle.placing.specs.Settling.{settles}
 use Rattle.placing.specs.Checking.{lengthRefusal}
 use Rattle.placing.proofs.CheckLaws.{lengths}
-use Rattle.search.specs.Rule.{enough, triedBy, searchOf, fromClosed}
-use Rattle.search.specs.Answers.{saidOf, searchRefusal, saidBy, roomBy, Looks}
+use Rattle.search.specs.Rule.{thereAt, tryAt, searchAt, searchOf, fromClosed}
+use Rattle.search.specs.Answers.{Said, saidPlaced, saidNone, saidGaveUp, saidRefused, saidOf, searchRefusal, saidBy, roomBy, orRefused, Looks}
 use Rattle.search.specs.Steps.{saidWith, Shows, Answers, Searched}
 use Rattle.search.specs.declared.Looked.{Looked}
 use Rattle.search.specs.declared.PlaceAnswer.{PlaceAnswer}
 use Rattle.search.specs.declared.PlaceAnswer.the-variants.{Placed, None, GaveUp, Refused}
 use Rattle.search.proofs.TryRight.{whole-searched}
 use Rattle.search.proofs.LookLaws.{a-grid}
-use Rattle.search.proofs.SearchRight.{first-whole, means}
+use Rattle.search.proofs.SearchRight.{first-emptied, first-whole, means}
 
 -- ---- the first closing, and the search from it
 
 module _ (n allowance : ℕ) (g : List ℕ) where
-  pub search-empty : someEmpty g ≡ true → searchOf n allowance g ≡ none 0
+  pub search-empty : Accepted n g → someEmpty g ≡ true → searchOf n allowance g ≡ none 0
   unfolding searchOf
-  search-empty e = ap (λ (x : quick.Ended). fromClosed n allowance (triedBy x)) (rule-empty n enough g e)
+  search-empty a e = ap (fromClosed n allowance) (first-emptied n g a e)
 
-  pub search-from : someEmpty g ≡ false → (t : Tried) → t ≡ triedBy (quick.run allen n enough 0 g (allPairs n)) → searchOf n allowance g ≡ fromClosed n allowance t
+  pub search-from : (t : Tried) → t ≡ closesTo allen n g → searchOf n allowance g ≡ fromClosed n allowance t
   unfolding searchOf
-  search-from e t q = ap (λ (x : quick.Ended). fromClosed n allowance (triedBy x)) (rule-run n enough g e) ∙ ap (fromClosed n allowance) (sym q)
+  search-from t q = ap (fromClosed n allowance) (sym q)
 
 -- the grid that the first closing leaves
-pub first-searched : (n : ℕ) (g : List ℕ) → Accepted n g → someEmpty g ≡ false → (e : End) (v : ℕ) (h : List ℕ)
-    → triedBy (ended e h) ≡ triedBy (quick.run allen n enough 0 g (allPairs n)) → e ≡ Closed v → length h ≡ n * n → Searched n h
-first-searched n g a f e v h q is long =
-    whole-searched n h (first-whole n g a h (ap triedBy (rule-run n enough g f) ∙ sym q ∙ a-grid e v h is)) long
+pub first-searched : (n : ℕ) (g : List ℕ) → Accepted n g → (e : End) (v : ℕ) (h : List ℕ) → triedBy (ended e h) ≡ closesTo allen n g → e ≡ Closed v → Searched n h
+first-searched n g a e v h q is = whole-searched n h (first-whole n g a h (sym q ∙ a-grid e v h is))
 
 pub answers-none : (n : ℕ) (e : Found) (room : List ℤ) → e ≡ none 0 → Answers n e room (None 0) room
 answers-none n e room q = record { answer = sym (ap saidBy q); room-after = sym (ap (λ (x : Found). roomBy n x room) q) }
@@ -111,3 +110,38 @@ said-unique (Refused t) (GaveUp u) e = let z : _≡_ {A = ℕ} 0 1 = cc in absur
 
 pub looks-unique : (n a : ℕ) (g : List ℕ) (room h k : List ℤ) (r s : PlaceAnswer) → Looks n a g room r h → Looks n a g room s k → (r ≡ s) × (h ≡ k)
 looks-unique n a g room h k r s p q = (said-unique r s (p .answer ∙ sym (q .answer)), p .room-after ∙ sym (q .room-after))
+
+-- ---- the tries are never more than the allowance
+
+-- the tries that an answer reports
+abbrev reported : Said → ℕ
+reported (saidPlaced t) = t
+reported (saidNone t) = t
+reported (saidGaveUp t) = t
+reported (saidRefused k) = 0
+
+search-within : (n a : ℕ) (g : List ℕ) → reported (saidBy (searchOf n a g)) ≤ a
+unfolding searchOf searchAt
+search-within n a g = subst (λ (t : ℕ). t ≤ a) (same (searchOf n a g)) (go (closesTo allen n g))
+  where
+    same : (e : Found) → triesOf e ≡ reported (saidBy e)
+    same (placed t h) = refl
+    same (none t) = refl
+    same (gaveUp t) = refl
+
+    go : (o : Tried) → triesOf (fromClosed n a o) ≤ a
+    go emptied = omega arith
+    go (closed h) = tries-within (thereAt n) (tryAt n) (settles n) a (pairsFrom n 0 1) h 0 (omega arith)
+
+pub looks-within : (n a : ℕ) (g : List ℕ) (room room' : List ℤ) (ans : PlaceAnswer) → Looks n a g room ans room'
+    → (t : ℕ) → (ans ≡ Placed t) ⊎ (ans ≡ None t) ⊎ (ans ≡ GaveUp t) → t ≤ a
+looks-within n a g room room' ans l t w = subst (λ (u : ℕ). u ≤ a) (said w) (subst (λ (s : Said). reported s ≤ a) (sym (l .answer)) (by (eqb (searchRefusal n g (length room)) 0)))
+  where
+    by : (b : Bool) → reported (orRefused b (saidBy (searchOf n a g)) (searchRefusal n g (length room))) ≤ a
+    by true = search-within n a g
+    by false = omega arith
+
+    said : (ans ≡ Placed t) ⊎ (ans ≡ None t) ⊎ (ans ≡ GaveUp t) → reported (saidOf ans) ≡ t
+    said (inl e) = ap (λ (x : PlaceAnswer). reported (saidOf x)) e
+    said (inr (inl e)) = ap (λ (x : PlaceAnswer). reported (saidOf x)) e
+    said (inr (inr e)) = ap (λ (x : PlaceAnswer). reported (saidOf x)) e

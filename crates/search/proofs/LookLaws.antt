@@ -3,7 +3,7 @@ use mathlib.Core.Path.{_≡_, refl, sym, ap, ap₂, subst, _∙_}
 use mathlib.Core.Bool.{Bool, true, false}
 use mathlib.Core.Logic.{⊎-elim}
 use mathlib.Core.List.{List, [], _∷_}
-use Prim.Native.Nat.{ℕ, _+_, _-_, _*_, _^_, _≤_, _<_}
+use Prim.Native.Nat.{ℕ, _+_, _-_, _^_, _≤_, _<_}
 use native.Mathlib.Decide.{ℕ-discrete}
 use native.Mathlib.Nat.{eq-or-lt-of-le}
 use native.Mathlib.Omega.{arith}
@@ -16,22 +16,27 @@ use denote.Enum.Declared.{tagOf}
 use Rattle.relation.specs.Sets.{member}
 use Rattle.relation.proofs.SetLaws.{member-mark}
 use Rattle.relation.proofs.LowestLaws.{Lowest, lowest-thirteen, mark-le}
-use Rattle.grid.specs.Cells.{cell}
+use Rattle.relation.specs.Composition.{converse}
+use Rattle.grid.specs.Cells.{cell, putBoth}
 use Rattle.theory.specs.Search.{Pair, emptied, closed, Found, placed, none, gaveUp, orNext, searchFrom, pairsFrom}
+use Rattle.theory.specs.Tried.{enough, triedBy}
+use Rattle.theory.specs.Allen.{allen}
+use Rattle.theory.specs.Line.{pairOf}
+use Rattle.theory.specs.Quick.{run}
 use Rattle.takes.specs.Steps.{ended}
 use Rattle.takes.specs.declared.End.{End}
 use Rattle.takes.specs.declared.End.the-variants.{Contradiction, Closed, Paused}
 use Rattle.takes.proofs.End.{the-type as end-type}
-use Rattle.search.specs.Rule.{thereAt, triedBy, tryAt, searchAt}
+use Rattle.search.specs.Rule.{thereAt, tryAt, searchAt}
 use Rattle.search.specs.Answers.{saidBy, roomBy}
-use Rattle.search.specs.Steps.{saidWith, Shows, Settles, Searched, AtCell, Stands, Steps, Passes, goesOn, after}
+use Rattle.search.specs.Steps.{saidWith, Shows, Settles, Searched, Triable, AtCell, Stands, Steps, Passes, goesOn, after}
 use Rattle.search.specs.declared.Looked.{Looked}
 use Rattle.search.specs.declared.Stand.{Stand}
 use Rattle.search.specs.declared.Outcome.{Outcome}
 use Rattle.search.specs.declared.Outcome.the-variants.{Placed, None, GaveUp}
 use Rattle.search.proofs.Outcome.{the-type as outcome-type}
 use Rattle.search.proofs.RuleLaws.{from, from-closed, from-emptied, from-alone, at-next, after-next}
-use Rattle.search.proofs.TryRight.{searched-whole, whole-searched, try-same, try-whole}
+use Rattle.search.proofs.TryRight.{searched-whole, whole-searched, try-same, try-short, try-whole}
 
 -- ---- the cell that is read
 
@@ -67,11 +72,20 @@ no-grid (Paused t) g h = refl
 pub a-grid : (e : End) (t : ℕ) (g : List ℕ) → e ≡ Closed t → triedBy (ended e g) ≡ closed g
 a-grid e t g q = ap (λ (x : End). triedBy (ended x g)) q
 
+-- its events are two of n
+pub triable-apart : (n i j r : ℕ) (g : List ℕ) → Triable n i j r g → (i < n) × (i ≡ j → ⊥)
+triable-apart n i j r g T = (omega (arith, T .upper, T .inside), λ e. omega (arith, T .upper))
+
 -- the grid that a try leaves
-pub next-searched : (n i j r v : ℕ) (g g' : List ℕ) (e : End) → i < j → j < n → r < 13 → thereAt n (i, j) r g ≡ true → Searched n g
-    → triedBy (ended e g') ≡ tryAt n (i, j) r g → e ≡ Closed v → length g' ≡ n * n → Searched n g'
-next-searched n i j r v g g' e up hj lt is S tried ends long =
-    whole-searched n g' (try-whole n (i, j) r g (up, hj) lt is (searched-whole n g S) g' (sym tried ∙ a-grid e v g' ends)) long
+pub next-searched : (n i j r v : ℕ) (g g' : List ℕ) (e : End) → Triable n i j r g → triedBy (ended e g') ≡ tryAt n (i, j) r g → e ≡ Closed v → Searched n g'
+next-searched n i j r v g g' e T tried ends =
+    whole-searched n g'
+    (try-whole n (i, j) r g (T .upper, T .inside) (T .relation) (T .there) (searched-whole n g (T .searched)) g' (sym tried ∙ a-grid e v g' ends))
+
+-- the takes from the one pair that was cut are the try
+pub try-made : (n i j r : ℕ) (g : List ℕ) → Triable n i j r g
+    → triedBy (run allen n enough 0 (putBoth converse n g i j (2 ^ r)) (pairOf i j ∷ [])) ≡ tryAt n (i, j) r g
+try-made n i j r g T = sym (try-short n (i, j) r g (T .upper, T .inside) (T .relation) (T .there) (searched-whole n g (T .searched)))
 
 -- ---- what the cells after this one came to
 
@@ -144,6 +158,10 @@ stands-in n a s w h =
     let m = w .at .more h in
     (omega (arith, w .at .upper), m, λ e. omega (arith, w .at .upper))
 
+-- where a try can be made
+pub triable : (n a r : ℕ) (g : List ℕ) (s : Stand) → Searched n g → Stands n a s → 0 < s .left → r < 13 → thereAt n (s .i, s .j) r g ≡ true → Triable n (s .i) (s .j) r g
+triable n a r g s S w h lt is = record { searched = S; upper = w .at .upper; inside = w .at .more h; relation = lt; there = is }
+
 -- and is not empty
 pub cell-some : (n : ℕ) (g : List ℕ) → Searched n g → (i j : ℕ) → i < n → j < n → (set : ℕ) → set ≡ cell n g i j → 0 < set
 cell-some n g S i j hi hj set is = go (ℕ-discrete set 0)
@@ -199,7 +217,7 @@ module _ (n a : ℕ) (g : List ℕ) (S : Searched n g) (at s : Stand) (stands : 
   alone-goes-on =
       goes-on-next n at s (at .tries + 1) steps a g
       ∙ sym (from-alone (thereAt n) (tryAt n) a (searchAt n a next) (at .i, at .j) g r (at .tries) (lowest .below) there others fresh
-      (try-same n (at .i) (at .j) r g S (in-grid .0) (in-grid .1) (in-grid .2) mark))
+      (try-same n (at .i) (at .j) r g S (in-grid .0) (in-grid .1) mark))
       ∙ look-start n a (at .i) (at .j) (at .tries) g next (after-next n (at .i) (at .j) (stands .at .upper) (in-grid .1) .pairs)
 
   pub alone-stands : Stands n a s

@@ -8,6 +8,7 @@ use native.Mathlib.Nat.{mul-le-mul, eq-or-lt-of-le, le-mul-of-pos-right, zero-lt
 use native.Mathlib.Omega.{arith}
 use native.Mathlib.Decide.{decLt}
 use borrow.Author.Tests.{eq-eqb, ne-eqb, lt-ltb, le-ltb}
+use lib.Count.{ones}
 use lib.Dec.{T, eqb, eqb→eq}
 use lib.IntN.{ℤ}
 use lib.ListN.{length}
@@ -19,15 +20,16 @@ use Rattle.relation.proofs.ExchangeLaws.{converse-lt, converse-twice}
 use Rattle.grid.specs.Cells.{putBoth}
 use Rattle.theory.specs.Fair.{Fair}
 use Rattle.theory.specs.Allen.{allen}
-use Rattle.theory.specs.Line.{pairOf, joins, occurs}
-use Rattle.theory.proofs.AllenLaws.{lawful}
+use Rattle.theory.specs.Line.{pairOf, allPairs, joins, occurs}
+use Rattle.theory.proofs.AllenLaws.{lawful, of-sets, eq-lawful, sized, top-lt}
+use Rattle.theory.proofs.ClosesLaws.{closes-all}
 use Rattle.theory.proofs.FairLaws.{put-fair}
 use Rattle.theory.proofs.MeetLaws.{sub-top}
 use Rattle.theory.proofs.QuickLaws.{going-grid}
 use Rattle.theory.specs.Quick.{Out, going, Ended, contradiction, goOn, run}
-use Rattle.theory.specs.Search.{Pair, Tried, emptied, closed, Found, placed, none, gaveUp, orNext, turnOf, relationsFrom, row, rows, pairsFrom}
+use Rattle.theory.specs.Tried.{enough, triedBy}
+use Rattle.theory.specs.Search.{Pair, Tried, emptied, closed, closesTo, Found, placed, none, gaveUp, orNext, turnOf, relationsFrom, row, rows, pairsFrom}
 use Rattle.placing.specs.Settling.{settles, Settled}
-use Rattle.search.specs.Rule.{enough, triedBy, tryAt}
 use Rattle.search.specs.Steps.{saidWith, Settles, AtCell, after}
 use Rattle.search.specs.declared.Looked.{Looked}
 use Rattle.search.specs.declared.Outcome.the-variants.{Placed, None}
@@ -124,10 +126,14 @@ joins-alone : (p : ℕ) → joins p [] ≡ p ∷ []
 unfolding joins occurs
 joins-alone p = refl
 
-pub try-is : (n i j r v : ℕ) (g h q w : List ℕ) (e : Ended) → going h q ≡ going (putBoth converse n g i j v) (joins (pairOf i j) w) → v ≡ 2 ^ r → w ≡ []
-    → e ≡ run allen n enough 0 h q → triedBy e ≡ tryAt n (i, j) r g
-unfolding tryAt
-try-is n i j r v g h q w e a b z f =
+-- the takes from all pairs close a grid
+pub closes-by-takes : (n : ℕ) (g : List ℕ) → Fair allen n g → length g ≡ n * n → closesTo allen n g ≡ triedBy (run allen n enough 0 g (allPairs n))
+closes-by-takes n g F long = closes-all allen lawful eq-lawful of-sets n ones sized (λ i j. top-lt) g F long
+
+-- the takes after the cut was written are those from the one pair
+pub takes-one : (n i j r v : ℕ) (g h q w : List ℕ) (e : Ended) → going h q ≡ going (putBoth converse n g i j v) (joins (pairOf i j) w) → v ≡ 2 ^ r → w ≡ []
+    → e ≡ run allen n enough 0 h q → triedBy e ≡ triedBy (run allen n enough 0 (putBoth converse n g i j (2 ^ r)) (pairOf i j ∷ []))
+takes-one n i j r v g h q w e a b z f =
     ap triedBy
     (f ∙ ap (λ (o : Out). goOn o (contradiction 0) (run allen n enough 0)) a ∙ ap (λ (x : ℕ). run allen n enough 0 (putBoth converse n g i j x) (joins (pairOf i j) w)) b
     ∙ ap (run allen n enough 0 (putBoth converse n g i j (2 ^ r))) (ap (joins (pairOf i j)) z ∙ joins-alone (pairOf i j)))

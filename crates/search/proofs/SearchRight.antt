@@ -1,46 +1,46 @@
 -- What the answers of the search mean for the given grid. Assumes nothing.
-use mathlib.Core.Path.{_≡_, refl, sym, ap, subst, _∙_}
+use mathlib.Core.Path.{_≡_, refl, sym, subst, _∙_}
 use mathlib.Core.Bool.{Bool, true, false}
-use mathlib.Core.Logic.{_⊎_, inl, inr, ⊎-elim}
+use mathlib.Core.Logic.{inl}
 use mathlib.Core.List.{List, [], _∷_, _++_}
 use Prim.Native.Nat.{ℕ, zero, suc, _+_, _-_, _*_, _≤_, _<_}
 use native.Mathlib.Decide.{ℕ-discrete}
 use native.Mathlib.Omega.{arith}
-use lib.Dec.{T, eqb}
+use lib.Dec.{T}
 use lib.IntN.{ℤ}
-use lib.ListN.{length, getD}
 use Rattle.relation.specs.Comparing.{relOf}
 use Rattle.relation.specs.Meaning.{Event}
 use Rattle.relation.specs.Sets.{member}
-use Rattle.relation.proofs.Tested.{some-no}
 use Rattle.relation.proofs.Rank.{In as Among, here, there}
-use Rattle.relation.proofs.Relations.{holds-found}
+use Rattle.relation.proofs.Relations.{exactly-one}
 use Rattle.grid.specs.Cells.{cell, someEmpty}
 use Rattle.grid.specs.Accepted.{Accepted}
 use Rattle.grid.specs.Meets.{Meets}
 use Rattle.theory.specs.Allen.{allen}
 use Rattle.theory.specs.Closing.{Closing}
-use Rattle.theory.specs.Line.{allPairs, rowsTo}
+use Rattle.theory.specs.Line.{allPairs}
 use Rattle.theory.specs.Quick as quick
-use Rattle.theory.specs.Search.{Pair, closed, Found, placed, none, gaveUp, row, rows, pairsFrom, searchFrom}
-use Rattle.theory.proofs.AllenLaws.{lawful}
-use Rattle.theory.proofs.GivenLaws.{fair}
+use Rattle.theory.specs.Search.{Pair, Tried, emptied, closed, closesTo, Found, placed, none, gaveUp, row, rows, pairsFrom, searchFrom, All}
+use Rattle.theory.specs.Tried.{enough, triedBy}
+use Rattle.theory.proofs.AllenLaws.{lawful, of-sets, eq-lawful}
+use Rattle.theory.proofs.LargestLaws.{closes-emptied}
+use Rattle.theory.proofs.FirstLaws.{no-later-alike}
+use Rattle.theory.proofs.GivenLaws.{fine, fair, hole}
 use Rattle.theory.proofs.FairLaws.{good-fair}
-use Rattle.theory.proofs.QuickRight.{start}
+use Rattle.theory.proofs.QuickRight.{start, empty-right, quick-right}
 use Rattle.theory.proofs.SettledLaws.{Right, LeavesGood, run-good}
-use Rattle.theory.proofs.TakeLaws.{Bounded}
-use Rattle.theory.proofs.PlacedLaws.{Uses, uses-more, closing-uses, empty-unused}
+use Rattle.theory.proofs.TakeLaws.{LeavesLong, run-long}
+use Rattle.theory.proofs.PlacedLaws.{Uses, meets-uses, uses-meets, uses-more, closing-uses, closes-some}
 use Rattle.theory.proofs.SearchLaws as search
-use Rattle.quick.specs.Answers.{quickRule}
-use Rattle.quick.proofs.RuleLaws.{rule-empty, rule-run, rule-right, rule-bound}
 use Rattle.placing.specs.Placing.{Places}
 use Rattle.placing.specs.Settling.{settles, placingOf}
-use Rattle.placing.proofs.SettleLaws.{settled-meets, placing-gapless}
-use Rattle.search.specs.Rule.{enough, thereAt, triedBy, tryAt, searchAt, searchOf, fromClosed}
-use Rattle.search.specs.Answers.{saidOf, saidBy, roomBy, NoLater, FirstPlacing, Meant}
+use Rattle.placing.proofs.SettleLaws.{settled-meets, placing-length, placing-gapless}
+use Rattle.search.specs.Rule.{thereAt, tryAt, searchAt, searchOf, fromClosed}
+use Rattle.search.specs.Answers.{saidOf, saidBy, roomBy, ScenarioOf, FirstPlacing, Meant}
 use Rattle.search.specs.declared.PlaceAnswer.{PlaceAnswer}
 use Rattle.search.specs.declared.PlaceAnswer.the-variants.{Placed, None, GaveUp, Refused}
-use Rattle.search.proofs.TryRight.{meets-uses, uses-meets, Upper, Whole, Ready, searchable}
+use Rattle.search.proofs.RuleLaws.{closes-by-takes}
+use Rattle.search.proofs.TryRight.{Upper, Whole, Ready, searchable}
 
 -- ---- the cells in order are all cells above the diagonal
 
@@ -71,7 +71,7 @@ rows-has i (suc k) a c lo l hi = go (ℕ-discrete a i) (rows-has (i + 1) k a c)
         among-left (rows (i + 1) k) (subst (λ (x : ℕ). Among (x, c) (row i (i + 1) (suc k))) (sym e) (row-has i (i + 1) (suc k) c (omega arith) (omega arith)))
     go (no ne) f = among-right (row i (i + 1) (suc k)) (f (omega arith) l (omega arith))
 
-pairs-have : (n a c : ℕ) → a < c → c < n → Among (a, c) (pairsFrom n 0 1)
+pub pairs-have : (n a c : ℕ) → a < c → c < n → Among (a, c) (pairsFrom n 0 1)
 unfolding pairsFrom
 pairs-have n a c l h = go (ℕ-discrete a 0)
   where
@@ -80,22 +80,22 @@ pairs-have n a c l h = go (ℕ-discrete a 0)
         among-left (rows 1 (n - 2)) (subst (λ (x : ℕ). Among (x, c) (row 0 1 (n - 1))) (sym e) (row-has 0 1 (n - 1) c (omega arith) (omega arith)))
     go (no ne) = among-right (row 0 1 (n - 1)) (rows-has 1 (n - 2) a c (omega arith) l (omega arith))
 
-all-append : (P : Pair → Type 0) (ps qs : List Pair) → search.All P ps → search.All P qs → search.All P (ps ++ qs)
+all-append : (P : Pair → Type 0) (ps qs : List Pair) → All P ps → All P qs → All P (ps ++ qs)
 all-append P [] qs x y = y
 all-append P (p ∷ ps) qs x y = (x .0, all-append P ps qs (x .1) y)
 
-row-upper : (n i j k : ℕ) → i < j → j + k ≤ n → search.All (Upper n) (row i j k)
+row-upper : (n i j k : ℕ) → i < j → j + k ≤ n → All (Upper n) (row i j k)
 unfolding row
 row-upper n i j zero h l = tt
 row-upper n i j (suc k) h l = ((h, omega arith), row-upper n i (j + 1) k (omega arith) (omega arith))
 
-rows-upper : (n i k : ℕ) → i + k < n → search.All (Upper n) (rows i k)
+rows-upper : (n i k : ℕ) → i + k < n → All (Upper n) (rows i k)
 unfolding rows
 rows-upper n i zero h = tt
 rows-upper n i (suc k) h =
     all-append (Upper n) (row i (i + 1) (suc k)) (rows (i + 1) k) (row-upper n i (i + 1) (suc k) (omega arith) (omega arith)) (rows-upper n (i + 1) k (omega arith))
 
-pairs-upper : (n : ℕ) → search.All (Upper n) (pairsFrom n 0 1)
+pairs-upper : (n : ℕ) → All (Upper n) (pairsFrom n 0 1)
 unfolding pairsFrom row rows
 pairs-upper zero = tt
 pairs-upper (suc zero) = tt
@@ -124,21 +124,12 @@ uses-alike : (n : ℕ) (g : List ℕ) (P Q : ℕ → Event) → Alike n P Q → 
 uses-alike n g P Q s u i j hi hj =
     subst (λ (r : ℕ). T (member r (cell n g i j))) (relOf-alike (P i) (P j) (Q i) (Q j) (s .starts i hi) (s .ends i hi) (s .starts j hj) (s .ends j hj)) (u i j hi hj)
 
--- by the numbers of the relations
-abbrev LaterOf : List Pair → (ℕ → Event) → (ℕ → Event) → Type 0
-LaterOf [] P Q = Unit {0}
-LaterOf (p ∷ ps) P Q =
-    (relOf (P (p .0)) (P (p .1)) < relOf (Q (p .0)) (Q (p .1))) ⊎ ((relOf (P (p .0)) (P (p .1)) ≡ relOf (Q (p .0)) (Q (p .1))) × LaterOf ps P Q)
+-- the one scenario of a placing
+abbrev scenario : (ℕ → Event) → Pair → ℕ
+scenario P p = relOf (P (p .0)) (P (p .1))
 
-no-later : (ps : List Pair) (P Q : ℕ → Event) → LaterOf ps P Q → NoLater ps P Q
-no-later [] P Q w = tt
-no-later (p ∷ ps) P Q w = (
-  relOf (P (p .0)) (P (p .1)),
-  relOf (Q (p .0)) (Q (p .1)),
-  holds-found (P (p .0)) (P (p .1)),
-  holds-found (Q (p .0)) (Q (p .1)),
-  ⊎-elim (λ l. inl l) (λ e. inr (e .0, no-later ps P Q (e .1))) w,
-)
+pub scenario-is : (P : ℕ → Event) (σ : Pair → ℕ) → ScenarioOf P σ → (p : Pair) → scenario P p ≡ σ p
+scenario-is P σ s p = exactly-one (σ p) (P (p .0)) (P (p .1)) .0 (s p)
 
 -- the search from the closed grid, as the rule of the theory
 at-is : (n a : ℕ) (h : List ℕ) {o : Found} → searchAt n a (pairsFrom n 0 1) h 0 ≡ o → searchFrom (thereAt n) (tryAt n) (settles n) a (pairsFrom n 0 1) h 0 ≡ o
@@ -147,97 +138,85 @@ at-is n a h q = q
 
 -- ---- the first closing
 
-run-none : (n f t : ℕ) (g : List ℕ) → quick.run allen n f t g [] ≡ quick.closed t g
-unfolding quick.run
-run-none n zero t g = refl
-run-none n (suc f) t g = refl
-
--- no events: nothing waits
-no-events : (g : List ℕ) → length g ≡ 0 → quickRule 0 enough g ≡ quick.closed 0 g
-unfolding allPairs rowsTo
-no-events g l =
-    rule-run 0 enough g (some-no (length g) (λ p. eqb (getD g p 0) 0) (λ i h. absurd (omega arith))) ∙ run-none 0 enough 0 g
-
 module _ (n : ℕ) (g : List ℕ) (a : Accepted n g) where
-  -- there is an event where the closing is empty
-  event : (t : ℕ) → quickRule n enough g ≡ quick.contradiction t → 0 < n
-  event t q = go (ℕ-discrete n 0)
-    where
-      go : Dec (n ≡ 0) → 0 < n
-      go (no ne) = omega arith
-      go (yes e) =
-          let z = sym (no-events g (a .long ∙ ap (λ (m : ℕ). m * m) e)) ∙ subst (λ (m : ℕ). quickRule m enough g ≡ quick.contradiction t) e q in
-          absurd (let y : _≡_ {A = ℕ} 0 1 = cc in omega arith)
+  small : (i j : ℕ) → i < n → j < n → cell n g i j < 8192
+  small i j hi hj = omega (arith, a .small i j hi hj)
 
-  never-paused : (t : ℕ) (h : List ℕ) → quickRule n enough g ≡ quick.paused t h → ⊥
-  never-paused t h q =
-      let b = rule-bound n g a enough in
-      let w : Bounded enough (b .0) (quick.paused t h) = subst (Bounded enough (b .0)) q (b .3) in
-      omega (arith, b .2, w .1)
+  -- a cell that is empty at the start: nothing is left
+  pub first-emptied : someEmpty g ≡ true → closesTo allen n g ≡ emptied
+  first-emptied e =
+      let h = hole n g a e in
+      closes-emptied allen lawful of-sets n g small (omega (arith, h .2)) (empty-right allen lawful n g (fine n g a) (h .0) (h .1) (h .2) (h .3) (h .4))
 
+  -- otherwise the takes from all pairs close it
   record First (h : List ℕ) : Type 0 where
     closing : Closing allen n (cell n g) (cell n h)
     ready : Ready n (pairsFrom n 0 1) h
 
-  first : (t : ℕ) (h : List ℕ) → quickRule n enough g ≡ quick.closed t h → First h
-  first t h q = go (someEmpty g) refl
+  first : (h : List ℕ) → closesTo allen n g ≡ closed h → First h
+  first h z = go (someEmpty g) refl
     where
-      go : (b : Bool) → someEmpty g ≡ b → First h
-      go true e = absurd (let z = sym (rule-empty n enough g e) ∙ q in let y : _≡_ {A = ℕ} 0 1 = cc in omega arith)
-      go false e =
-          let c : Closing allen n (cell n g) (cell n h) = subst (Right allen n g) q (rule-right n g a enough) in
-          let G =
-          subst (LeavesGood allen n g) (sym (rule-run n enough g e) ∙ q)
-          (run-good allen lawful n (a .few) g enough 0 g (allPairs n) (start allen lawful n g (fair n g a e))) in
-          record {
+      left : (e : someEmpty g ≡ false) (r : quick.Ended) → quick.run allen n enough 0 g (allPairs n) ≡ r → triedBy r ≡ closed h → First h
+      left e (quick.contradiction t) q w = absurd (let y : _≡_ {A = ℕ} 0 1 = cc in omega arith)
+      left e (quick.closed t k) q w =
+          let F = fair n g a e in
+          let s = start allen lawful n g F in
+          let same : k ≡ h = cc in
+          let c : Closing allen n (cell n g) (cell n k) = subst (Right allen n g) q (quick-right allen lawful n g F eq-lawful enough) in
+          subst First same
+          (record {
             closing = c;
             ready =
                 record {
-                  whole = record { fair = good-fair allen lawful n g h (a .few) G; closed = c .closed };
+                  whole =
+                      record {
+                        fair = good-fair allen lawful n g k (a .few) (subst (LeavesGood allen n g) q (run-good allen lawful n (a .few) g enough 0 g (allPairs n) s));
+                        closed = c .closed;
+                        long = subst (LeavesLong (n * n)) q (run-long allen lawful n (a .few) g (n * n) enough 0 g (allPairs n) s (a .long));
+                      };
                   decided = λ p o. inl (pairs-have n (p .0) (p .1) (o .0) (o .1));
                 };
-          }
+          })
+      left e (quick.paused t k) q w = absurd (let y : _≡_ {A = ℕ} 0 1 = cc in omega arith)
 
-  pub first-whole : (h : List ℕ) → triedBy (quickRule n enough g) ≡ closed h → Whole n h
-  first-whole h = go (quickRule n enough g) refl
-    where
-      go : (e : quick.Ended) → quickRule n enough g ≡ e → triedBy e ≡ closed h → Whole n h
-      go (quick.contradiction t) q z = absurd (let y : _≡_ {A = ℕ} 0 1 = cc in omega arith)
-      go (quick.closed t k) q z = let e : k ≡ h = cc in subst (Whole n) e (first t k q .ready .whole)
-      go (quick.paused t k) q z = absurd (let y : _≡_ {A = ℕ} 0 1 = cc in omega arith)
+      go : (b : Bool) → someEmpty g ≡ b → First h
+      go true e = absurd (let z = sym (first-emptied e) ∙ z in let y : _≡_ {A = ℕ} 0 1 = cc in omega arith)
+      go false e = left e (quick.run allen n enough 0 g (allPairs n)) refl (sym (closes-by-takes n g (fair n g a e) (a .long)) ∙ z)
 
-  -- ---- none
+  pub first-whole : (h : List ℕ) → closesTo allen n g ≡ closed h → Whole n h
+  first-whole h z = first h z .ready .whole
 
   module _ (allowance : ℕ) where
+    -- ---- none
+
     none-means : (t : ℕ) → searchOf n allowance g ≡ none t → (P : ℕ → Event) → Meets n g P → ⊥
     unfolding searchOf
-    none-means t q P m = go (quickRule n enough g) refl q
+    none-means t q P m = go (closesTo allen n g) refl q
       where
-        go : (e : quick.Ended) → quickRule n enough g ≡ e → fromClosed n allowance (triedBy e) ≡ none t → ⊥
-        go (quick.contradiction u) k z =
-            empty-unused n P (cell n g) 0 (event u k) (subst (Right allen n g) k (rule-right n g a enough)) (meets-uses n g P m)
-        go (quick.closed u h) k z =
-            let f = first u h k in
+        go : (o : Tried) → closesTo allen n g ≡ o → fromClosed n allowance o ≡ none t → ⊥
+        go emptied k z = closes-some n P g small (meets-uses n g P m) k
+        go (closed h) k z =
+            let f = first h k in
             search.none-right (thereAt n) (tryAt n) (settles n) allowance (ℕ → Event) (λ P p. relOf (P (p .0)) (P (p .1))) (λ P g. Uses n P (cell n g))
             (Upper n) (Ready n) (searchable n) (pairsFrom n 0 1) h 0 t (pairs-upper n) (f .ready) (at-is n allowance h z) P
             (closing-uses n P (cell n g) (cell n h) (f .closing) (meets-uses n g P m))
-        go (quick.paused u h) k z = never-paused u h k
 
     -- ---- placed
 
     placed-means : (t : ℕ) (k : List ℕ) → searchOf n allowance g ≡ placed t k → FirstPlacing n g (placingOf n k)
     unfolding searchOf
-    placed-means t k q = go (quickRule n enough g) refl q
+    placed-means t k q = go (closesTo allen n g) refl q
       where
-        go : (e : quick.Ended) → quickRule n enough g ≡ e → fromClosed n allowance (triedBy e) ≡ placed t k → FirstPlacing n g (placingOf n k)
-        go (quick.contradiction u) e z = absurd (let y : _≡_ {A = ℕ} 0 1 = cc in omega arith)
-        go (quick.closed u h) e z =
-            let f = first u h e in
+        go : (o : Tried) → closesTo allen n g ≡ o → fromClosed n allowance o ≡ placed t k → FirstPlacing n g (placingOf n k)
+        go emptied e z = absurd (let y : _≡_ {A = ℕ} 0 1 = cc in omega arith)
+        go (closed h) e z =
+            let f = first h e in
             let r =
             search.placed-right (thereAt n) (tryAt n) (settles n) allowance (ℕ → Event) (λ P p. relOf (P (p .0)) (P (p .1)))
             (λ P g. Uses n P (cell n g)) (Upper n) (Ready n) (searchable n) (pairsFrom n 0 1) h k 0 t (pairs-upper n) (f .ready) (at-is n allowance h z) in
             let m = settled-meets n k (r .fitting) in
             record {
+              long = placing-length n k;
               meets =
                   record {
                     placing = m .placing;
@@ -248,23 +227,21 @@ module _ (n : ℕ) (g : List ℕ) (a : Accepted n g) where
                         (r .inside (m .placing) (meets-uses n k (m .placing) (m .meets))));
                   };
               no-gaps = placing-gapless n k;
-              first = λ P Q l M.
-                  no-later (pairsFrom n 0 1) P Q
+              first = λ P Q σ τ l s M w.
+                  no-later-alike (pairsFrom n 0 1) (scenario-is P σ s) (scenario-is Q τ w)
                   (r .first P Q (uses-alike n k (m .placing) P (same-numbers n (placingOf n k) (m .placing) P (m .places) l) (meets-uses n k (m .placing) (m .meets)))
                   (closing-uses n Q (cell n g) (cell n h) (f .closing) (meets-uses n g Q M)));
             }
-        go (quick.paused u h) e z = absurd (let y : _≡_ {A = ℕ} 0 1 = cc in omega arith)
 
     -- ---- gave up
 
     gave-up-means : (t : ℕ) → searchOf n allowance g ≡ gaveUp t → t ≡ allowance
     unfolding searchOf
-    gave-up-means t q = go (quickRule n enough g) q
+    gave-up-means t q = go (closesTo allen n g) q
       where
-        go : (e : quick.Ended) → fromClosed n allowance (triedBy e) ≡ gaveUp t → t ≡ allowance
-        go (quick.contradiction u) z = absurd (let y : _≡_ {A = ℕ} 0 1 = cc in omega arith)
-        go (quick.closed u h) z = search.gave-up-right (thereAt n) (tryAt n) (settles n) allowance (pairsFrom n 0 1) h 0 t (at-is n allowance h z)
-        go (quick.paused u h) z = absurd (let y : _≡_ {A = ℕ} 0 1 = cc in omega arith)
+        go : (o : Tried) → fromClosed n allowance o ≡ gaveUp t → t ≡ allowance
+        go emptied z = absurd (let y : _≡_ {A = ℕ} 0 1 = cc in omega arith)
+        go (closed h) z = search.gave-up-right (thereAt n) (tryAt n) (settles n) allowance (pairsFrom n 0 1) h 0 t (at-is n allowance h z)
 
     -- ---- every answer
 

@@ -18,42 +18,34 @@ use Rattle.relation.specs.Composition.{converse}
 use Rattle.relation.proofs.Tested.{T-of, of-T}
 use Rattle.relation.proofs.Rank.{In as Among, here, there}
 use Rattle.relation.proofs.SetLaws.{mark-lt}
-use Rattle.relation.proofs.Relations.{relOf-lt, exactly-one, holds-found}
+use Rattle.relation.proofs.Relations.{relOf-lt}
 use Rattle.relation.proofs.ExchangeLaws.{exchanged-lt, relOf-back, converse-twice, converse-mark}
 use Rattle.grid.specs.Cells.{cell, putBoth}
-use Rattle.grid.specs.Meets.{Meets}
-use Rattle.grid.proofs.CellLaws.{putBoth-same, cell-both-here, cell-both-mirror, cell-both-other}
+use Rattle.grid.proofs.CellLaws.{putBoth-length, putBoth-same, cell-both-here, cell-both-mirror, cell-both-other}
 use Rattle.theory.specs.Allen.{allen}
 use Rattle.theory.specs.Closing.{Closed, Closing, Within}
 use Rattle.theory.specs.Fair.{Fair}
 use Rattle.theory.specs.Line.{pairOf}
 use Rattle.theory.specs.Quick as quick
-use Rattle.theory.specs.Search.{Pair, emptied, closed}
-use Rattle.theory.proofs.AllenLaws.{lawful, eq-lawful, sized, top-lt}
+use Rattle.theory.specs.Search.{Pair, emptied, closed, closesTo}
+use Rattle.theory.specs.Tried.{enough, triedBy}
+use Rattle.theory.proofs.AllenLaws.{lawful, of-sets, eq-lawful, sized, top-lt}
 use Rattle.theory.proofs.ClosingLaws.{sub-trans}
 use Rattle.theory.proofs.GivenLaws.{fine}
 use Rattle.theory.proofs.KeepLaws.{Good}
 use Rattle.theory.proofs.FairLaws.{good-fair}
-use Rattle.theory.proofs.LineLaws.{pair-ok}
-use Rattle.theory.proofs.SettledLaws.{Right, LeavesGood, run-good}
-use Rattle.theory.proofs.TryLaws.{try-nothing, cut-inside, resting, try-right, try-ends}
-use Rattle.theory.proofs.PlacedLaws.{member-only, mark-inside, inside-mark, only-mark, Uses, uses-more, closing-uses, empty-unused}
+use Rattle.theory.proofs.LargestLaws.{closes-same}
+use Rattle.theory.proofs.ClosesLaws.{closes-one}
+use Rattle.theory.proofs.SettledLaws.{Resting, Right, LeavesGood, run-good}
+use Rattle.theory.proofs.TakeLaws.{LeavesLong, run-long}
+use Rattle.theory.proofs.TryLaws.{cut-inside, resting, try-right}
+use Rattle.theory.proofs.PlacedLaws.{member-only, mark-inside, inside-mark, only-mark, Uses, meets-uses, uses-meets, uses-more, closing-uses, closes-some}
 use Rattle.theory.proofs.SearchLaws.{Searchable}
 use Rattle.placing.specs.Placing.{Scenario}
 use Rattle.placing.specs.Settling.{settles}
 use Rattle.placing.proofs.SettleLaws.{settled-meets, unsettled-none}
-use Rattle.search.specs.Rule.{enough, thereAt, triedBy, tryAt}
+use Rattle.search.specs.Rule.{thereAt, tryAt}
 use Rattle.search.specs.Steps.{Searched}
-
--- ---- placings and cells
-
-pub meets-uses : (n : ℕ) (g : List ℕ) (P : ℕ → Event) → Meets n g P → Uses n P (cell n g)
-meets-uses n g P m i j hi hj =
-    let w = m .each i j hi hj in
-    subst (λ (r : ℕ). T (member r (cell n g i j))) (sym (exactly-one (w .0) (P i) (P j) .0 (w .3))) (w .2)
-
-pub uses-meets : (n : ℕ) (g : List ℕ) (P : ℕ → Event) → Uses n P (cell n g) → Meets n g P
-uses-meets n g P u = record { each = λ i j hi hj. (relOf (P i) (P j), relOf-lt (P i) (P j), u i j hi hj, holds-found (P i) (P j)) }
 
 -- ---- the grids that are searched
 
@@ -69,6 +61,7 @@ Single n p g = (r : ℕ) × (r < 13) × (cell n g (p .0) (p .1) ≡ 2 ^ r)
 pub record Whole (n : ℕ) (g : List ℕ) : Type 0 where
   pub fair : Fair allen n g
   pub closed : Closed allen n (cell n g)
+  pub long : length g ≡ n * n
 
 -- and each cell is decided or among those of ps
 pub record Ready (n : ℕ) (ps : List Pair) (g : List ℕ) : Type 0 where
@@ -85,15 +78,15 @@ pub searched-fair : (n : ℕ) (g : List ℕ) → Searched n g → Fair allen n g
 searched-fair n g S = record { fine = fine n g (S .accepted); full = S .full }
 
 pub searched-whole : (n : ℕ) (g : List ℕ) → Searched n g → Whole n g
-searched-whole n g S = record { fair = searched-fair n g S; closed = S .closed }
+searched-whole n g S = record { fair = searched-fair n g S; closed = S .closed; long = S .accepted .long }
 
-pub whole-searched : (n : ℕ) (g : List ℕ) → Whole n g → length g ≡ n * n → Searched n g
-whole-searched n g W long =
+pub whole-searched : (n : ℕ) (g : List ℕ) → Whole n g → Searched n g
+whole-searched n g W =
     record {
       accepted =
           record {
             few = W .fair .fine .few;
-            long = long;
+            long = W .long;
             small = λ i j hi hj. omega (arith, top-lt (cell n g i j) (W .fair .fine .topped i j hi hj));
             diagonal = W .fair .fine .diagonal;
             mirrored = W .fair .fine .mirrored;
@@ -103,12 +96,11 @@ whole-searched n g W long =
     }
 
 -- a try with the one relation that is there cuts nothing
-pub try-same : (n i j r : ℕ) (g : List ℕ) → Searched n g → i < n → j < n → (i ≡ j → ⊥) → cell n g i j ≡ 2 ^ r → tryAt n (i, j) r g ≡ closed g
+pub try-same : (n i j r : ℕ) (g : List ℕ) → Searched n g → i < n → j < n → cell n g i j ≡ 2 ^ r → tryAt n (i, j) r g ≡ closed g
 unfolding tryAt
-try-same n i j r g S hi hj ne e =
-    ap (λ (h : List ℕ). triedBy (quick.run allen n enough 0 h (pairOf i j ∷ [])))
-    (putBoth-same converse n g i j (2 ^ r) (sym e) (ap converse (sym e) ∙ sym (S .accepted .mirrored i j hi hj)))
-    ∙ ap triedBy (try-nothing allen n g (S .closed) (pairOf i j) (pair-ok n i j (S .accepted .few) hi hj ne) 6447)
+try-same n i j r g S hi hj e =
+    ap (closesTo allen n) (putBoth-same converse n g i j (2 ^ r) (sym e) (ap converse (sym e) ∙ sym (S .accepted .mirrored i j hi hj)))
+    ∙ closes-same allen lawful of-sets n g (λ a b ha hb. omega (arith, S .accepted .small a b ha hb)) (S .accepted .long) (S .full) (S .closed)
 
 -- ---- one try, from a grid that is searched
 
@@ -135,19 +127,36 @@ module _ (n : ℕ) (p : Pair) (r : ℕ) (g : List ℕ) (ok : Upper n p) (lt : r 
   within : Within allen n (cell n cut) (cell n g)
   within = cut-inside allen lawful n g (W .fair) (p .0) (p .1) hi (ok .1) apart (2 ^ r) in-cell back
 
+  cut-small : (i j : ℕ) → i < n → j < n → cell n cut i j < 8192
+  cut-small i j hi hj =
+      of-sets .small (cell n cut i j) (cell n g i j) (within i j hi hj) (top-lt (cell n g i j) (W .fair .fine .topped i j hi hj))
+
   here-cut : cell n cut (p .0) (p .1) ≡ 2 ^ r
   here-cut = cell-both-here converse n g (W .fair .fine .fits) (p .0) (p .1) (2 ^ r) hi (ok .1) apart
+
+  -- the takes from the one pair that was cut
+  abbrev takes : quick.Ended
+  takes = quick.run allen n enough 0 cut (pairOf (p .0) (p .1) ∷ [])
+
+  -- the grid was closed before, so they are enough
+  pub try-short : tryAt n p r g ≡ triedBy takes
+  unfolding tryAt
+  try-short =
+      closes-one allen lawful eq-lawful of-sets n ones sized (λ i j. top-lt) g (W .fair) (W .long) (W .closed) (p .0) (p .1) hi (ok .1) apart (2 ^ r) in-cell back some
+
+  rest : Resting allen n cut cut (pairOf (p .0) (p .1) ∷ [])
+  rest = resting allen lawful n g (W .fair) (p .0) (p .1) hi (ok .1) apart (2 ^ r) in-cell back some (W .closed)
 
   -- what a try leaves
   record Left (g' : List ℕ) : Type 0 where
     closing : Closing allen n (cell n cut) (cell n g')
     good : Good allen n cut g'
+    long : length g' ≡ n * n
 
   left : (g' : List ℕ) → tryAt n p r g ≡ closed g' → Left g'
-  unfolding tryAt
-  left g' = go (quick.run allen n enough 0 cut (pairOf (p .0) (p .1) ∷ [])) refl
+  left g' z = go takes refl (sym try-short ∙ z)
     where
-      go : (e : quick.Ended) → quick.run allen n enough 0 cut (pairOf (p .0) (p .1) ∷ []) ≡ e → triedBy e ≡ closed g' → Left g'
+      go : (e : quick.Ended) → takes ≡ e → triedBy e ≡ closed g' → Left g'
       go (quick.contradiction t) q z = absurd (let y : _≡_ {A = ℕ} 0 1 = cc in omega arith)
       go (quick.closed t h) q z =
           let k : h ≡ g' = cc in
@@ -156,25 +165,13 @@ module _ (n : ℕ) (p : Pair) (r : ℕ) (g : List ℕ) (ok : Upper n p) (lt : r 
             closing =
                 subst (Right allen n cut) q
                 (try-right allen lawful n g (W .fair) (p .0) (p .1) hi (ok .1) apart (2 ^ r) in-cell back some (W .closed) eq-lawful enough);
-            good =
-                subst (LeavesGood allen n cut) q
-                (run-good allen lawful n (W .fair .fine .few) cut enough 0 cut (pairOf (p .0) (p .1) ∷ [])
-                (resting allen lawful n g (W .fair) (p .0) (p .1) hi (ok .1) apart (2 ^ r) in-cell back some (W .closed)));
+            good = subst (LeavesGood allen n cut) q (run-good allen lawful n (W .fair .fine .few) cut enough 0 cut (pairOf (p .0) (p .1) ∷ []) rest);
+            long =
+                subst (LeavesLong (n * n)) q
+                (run-long allen lawful n (W .fair .fine .few) cut (n * n) enough 0 cut (pairOf (p .0) (p .1) ∷ []) rest
+                (putBoth-length converse n g (p .0) (p .1) (2 ^ r) ∙ W .long));
           })
       go (quick.paused t h) q z = absurd (let y : _≡_ {A = ℕ} 0 1 = cc in omega arith)
-
-  nothing-left : tryAt n p r g ≡ emptied → Closing allen n (cell n cut) (λ i j. 0)
-  unfolding tryAt
-  nothing-left = go (quick.run allen n enough 0 cut (pairOf (p .0) (p .1) ∷ [])) refl
-    where
-      go : (e : quick.Ended) → quick.run allen n enough 0 cut (pairOf (p .0) (p .1) ∷ []) ≡ e → triedBy e ≡ emptied → Closing allen n (cell n cut) (λ i j. 0)
-      go (quick.contradiction t) q z =
-          subst (Right allen n cut) q
-          (try-right allen lawful n g (W .fair) (p .0) (p .1) hi (ok .1) apart (2 ^ r) in-cell back some (W .closed) eq-lawful enough)
-      go (quick.closed t h) q z = absurd (let y : _≡_ {A = ℕ} 0 1 = cc in omega arith)
-      go (quick.paused t h) q z =
-          absurd
-          (try-ends allen lawful n g (W .fair) (p .0) (p .1) hi (ok .1) apart (2 ^ r) in-cell back some (W .closed) ones sized t h q)
 
   -- a placing with relation r for the pair uses the cut grid too
   uses-cut : (P : ℕ → Event) → Uses n P (cell n g) → relOf (P (p .0)) (P (p .1)) ≡ r → Uses n P (cell n cut)
@@ -207,7 +204,8 @@ module _ (n : ℕ) (p : Pair) (r : ℕ) (g : List ℕ) (ok : Upper n p) (lt : r 
   try-keeps P g' u e q = closing-uses n P (cell n cut) (cell n g') (left g' q .closing) (uses-cut P u e)
 
   pub try-never : (P : ℕ → Event) → Uses n P (cell n g) → relOf (P (p .0)) (P (p .1)) ≡ r → tryAt n p r g ≡ emptied → ⊥
-  try-never P u e q = empty-unused n P (cell n cut) (p .0) hi (nothing-left q) (uses-cut P u e)
+  unfolding tryAt
+  try-never P u e q = closes-some n P cut cut-small (uses-cut P u e) q
 
   pub try-inside : (g' : List ℕ) → tryAt n p r g ≡ closed g' → Within allen n (cell n g') (cell n g)
   try-inside g' q a b ha hb =
@@ -228,7 +226,7 @@ module _ (n : ℕ) (p : Pair) (r : ℕ) (g : List ℕ) (ok : Upper n p) (lt : r 
   pub try-whole : (g' : List ℕ) → tryAt n p r g ≡ closed g' → Whole n g'
   try-whole g' q =
       let l = left g' q in
-      record { fair = good-fair allen lawful n cut g' (W .fair .fine .few) (l .good); closed = l .closing .closed }
+      record { fair = good-fair allen lawful n cut g' (W .fair .fine .few) (l .good); closed = l .closing .closed; long = l .long }
 
   pub try-ready : (ps : List Pair) → ((q : Pair) → Upper n q → Among q (p ∷ ps) ⊎ Single n q g) → (g' : List ℕ) → tryAt n p r g ≡ closed g' → Ready n ps g'
   try-ready ps before g' q = record { whole = try-whole g' q; decided = decided }

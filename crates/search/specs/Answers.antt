@@ -1,9 +1,8 @@
 -- Document 01, "Looking for a placing" and "What comes back": the answer and the room afterwards, for every input. Assumes nothing.
 use mathlib.Core.Path.{_≡_}
 use mathlib.Core.Bool.{Bool, true, false}
-use mathlib.Core.Logic.{_⊎_}
-use mathlib.Core.List.{List, [], _∷_}
-use Prim.Native.Nat.{ℕ, _<_}
+use mathlib.Core.List.{List}
+use Prim.Native.Nat.{ℕ, _*_}
 use lib.Dec.{eqb}
 use lib.IntN.{ℤ}
 use lib.ListN.{length}
@@ -11,7 +10,7 @@ use Rattle.refusal.specs.Numbers.{numberOf}
 use Rattle.relation.specs.Meaning.{Event, holds}
 use Rattle.grid.specs.Accepted.{cellRefusal, firstOf}
 use Rattle.grid.specs.Meets.{Meets}
-use Rattle.theory.specs.Search.{Pair, Found, placed, none, gaveUp, pairsFrom}
+use Rattle.theory.specs.Search.{Pair, Found, placed, none, gaveUp, pairsFrom, NoLater}
 use Rattle.placing.specs.Placing.{Places, MeetsAt, NoGaps}
 use Rattle.placing.specs.Checking.{lengthRefusal}
 use Rattle.placing.specs.Settling.{placingOf}
@@ -58,17 +57,16 @@ orKept false new old = old
 
 -- ---- the meaning
 
--- the relations of the placing P to the pairs come no later than those of Q, in rising number
-abbrev pub NoLater : List Pair → (ℕ → Event) → (ℕ → Event) → Type 0
-NoLater [] P Q = Unit {0}
-NoLater (p ∷ ps) P Q =
-    (r : ℕ) × (s : ℕ) × holds r (P (p .0)) (P (p .1)) × holds s (Q (p .0)) (Q (p .1)) × ((r < s) ⊎ ((r ≡ s) × NoLater ps P Q))
+-- σ gives the relation of each pair in the placing P
+abbrev pub ScenarioOf : (ℕ → Event) → (Pair → ℕ) → Type 0
+ScenarioOf P σ = (p : Pair) → holds (σ p) (P (p .0)) (P (p .1))
 
 -- the numbers are a placing without gaps that meets every cell of the given grid, and its scenario is the first that any placing meets
 pub record FirstPlacing (n : ℕ) (g : List ℕ) (xs : List ℤ) : Type 0 where
+  pub long : length xs ≡ 2 * n
   pub meets : MeetsAt n g xs
   pub no-gaps : NoGaps xs
-  pub first : (P Q : ℕ → Event) → Places n xs P → Meets n g Q → NoLater (pairsFrom n 0 1) P Q
+  pub first : (P Q : ℕ → Event) (σ τ : Pair → ℕ) → Places n xs P → ScenarioOf P σ → Meets n g Q → ScenarioOf Q τ → NoLater (pairsFrom n 0 1) σ τ
 
 -- what an answer means for the given grid, with the room afterwards
 abbrev pub Meant : ℕ → ℕ → List ℕ → List ℤ → PlaceAnswer → Type 0

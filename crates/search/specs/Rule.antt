@@ -1,33 +1,21 @@
 -- Document 01, "Looking for a placing": the search of an accepted grid. proofs/SearchRight.antt shows what its answers mean. Assumes nothing.
 use mathlib.Core.Bool.{Bool}
-use mathlib.Core.List.{List, [], _∷_}
+use mathlib.Core.List.{List}
 use Prim.Native.Nat.{ℕ, _^_}
 use Rattle.relation.specs.Sets.{member}
 use Rattle.relation.specs.Composition.{converse}
 use Rattle.grid.specs.Cells.{cell, putBoth}
 use Rattle.theory.specs.Allen.{allen}
-use Rattle.theory.specs.Line.{pairOf}
-use Rattle.theory.specs.Quick as quick
-use Rattle.theory.specs.Search.{Pair, Tried, emptied, closed, Found, none, searchFrom, pairsFrom}
-use Rattle.quick.specs.Answers.{quickRule}
+use Rattle.theory.specs.Search.{Pair, Tried, emptied, closed, closesTo, Found, none, searchFrom, pairsFrom}
 use Rattle.placing.specs.Settling.{settles}
-
--- so many takes always suffice
-abbrev pub enough : ℕ
-enough = 6448
 
 -- relation r is still there in the cell of the pair
 unfoldable pub thereAt : ℕ → Pair → ℕ → List ℕ → Bool
 thereAt n p r g = member r (cell n g (p .0) (p .1))
 
-abbrev pub triedBy : quick.Ended → Tried
-triedBy (quick.contradiction t) = emptied
-triedBy (quick.closed t g) = closed g
-triedBy (quick.paused t g) = emptied
-
--- one try: the cell and its mirror are cut to relation r, and the grid is closed. It was closed before, so it is closed from the one pair that was cut.
+-- one try: the cell and its mirror are cut to relation r, and the grid is closed
 unfoldable pub tryAt : ℕ → Pair → ℕ → List ℕ → Tried
-tryAt n p r g = triedBy (quick.run allen n enough 0 (putBoth converse n g (p .0) (p .1) (2 ^ r)) (pairOf (p .0) (p .1) ∷ []))
+tryAt n p r g = closesTo allen n (putBoth converse n g (p .0) (p .1) (2 ^ r))
 
 -- the cells from a list on
 unfoldable pub searchAt : ℕ → ℕ → List Pair → List ℕ → ℕ → Found
@@ -39,4 +27,4 @@ fromClosed n allowance emptied = none 0
 fromClosed n allowance (closed h) = searchAt n allowance (pairsFrom n 0 1) h 0
 
 unfoldable pub searchOf : ℕ → ℕ → List ℕ → Found
-searchOf n allowance g = fromClosed n allowance (triedBy (quickRule n enough g))
+searchOf n allowance g = fromClosed n allowance (closesTo allen n g)

@@ -1,6 +1,6 @@
 -- The search from one cell on, and where the code stands. Inner functions cite this; the public statement does not. Assumes nothing.
 use mathlib.Core.Path.{_≡_}
-use mathlib.Core.Bool.{cond}
+use mathlib.Core.Bool.{true, cond}
 use mathlib.Core.List.{List}
 use Prim.Native.Nat.{ℕ, _+_, _-_, _≤_, _<_}
 use lib.Dec.{ltb}
@@ -13,7 +13,7 @@ use Rattle.theory.specs.Allen.{allen}
 use Rattle.theory.specs.Closing.{Closed}
 use Rattle.theory.specs.Search.{Pair, Found, pastLast, pairsFrom}
 use Rattle.placing.specs.Settling.{settles}
-use Rattle.search.specs.Rule.{searchAt}
+use Rattle.search.specs.Rule.{thereAt, searchAt}
 use Rattle.search.specs.Answers.{Said, saidPlaced, saidNone, saidGaveUp, saidOf, saidBy, roomBy}
 use Rattle.search.specs.declared.Outcome.{Outcome}
 use Rattle.search.specs.declared.Outcome.the-variants.{Placed, None, GaveUp}
@@ -48,6 +48,14 @@ pub record Searched (n : ℕ) (g : List ℕ) : Type 0 where
   pub accepted : Accepted n g
   pub full : Full n g
   pub closed : Closed allen n (cell n g)
+
+-- a try: relation r is there in a cell (i, j) of a grid that is searched
+pub record Triable (n i j r : ℕ) (g : List ℕ) : Type 0 where
+  pub searched : Searched n g
+  pub upper : i < j
+  pub inside : j < n
+  pub relation : r < 13
+  pub there : thereAt n (i, j) r g ≡ true
 
 -- cell (i, j), or past the last, with so many cells left
 pub record AtCell (n i j left : ℕ) : Type 0 where

@@ -6,13 +6,13 @@ ghost use Rattle.grid.specs.Cells.{Held};
 ghost use Rattle.grid.specs.Accepted.{Accepted, judgedNumber};
 ghost use Rattle.theory.specs.Fair.{Fair};
 ghost use Rattle.theory.specs.Allen.{allen};
-ghost use Rattle.theory.specs.Line.{allPairs};
-ghost use Rattle.theory.specs.Quick.{run};
+ghost use Rattle.theory.specs.Search.{closesTo};
+ghost use Rattle.theory.specs.Tried.{triedBy};
 ghost use Rattle.takes.specs.Waiting.{Idle};
 ghost use Rattle.takes.specs.Steps.{ended};
-ghost use Rattle.search.specs.Rule.{enough, triedBy, tryAt, searchOf};
+ghost use Rattle.search.specs.Rule.{tryAt, searchOf};
 ghost use Rattle.search.specs.Answers.{saidOf, searchRefusal, Looks};
-ghost use Rattle.search.specs.Steps.{saidWith, Shows, Settles, Answers, Searched, Stands, Steps, Passes, goesOn, after};
+ghost use Rattle.search.specs.Steps.{saidWith, Shows, Settles, Answers, Searched, Triable, Stands, Steps, Passes, goesOn, after};
 use grid::Judged;
 use refusal::Refusal;
 use takes::End;
@@ -117,7 +117,7 @@ fn attempt(
     j: usize,
     r: usize,
 ) -> End
-    requires { ⌜ Idle n (now ring) (now flag) × Fair allen n (now g) × (i < n) × (j < n) × (i ≡ j → ⊥) × (r < 13) ⌝ }
+    requires { ⌜ Idle n (now ring) (now flag) × Triable n i j r (now g) ⌝ }
     ensures tried { λ e. ⌜ triedBy (ended e (now (g .exit))) ≡ tryAt n (i, j) r (now (g .entry)) ⌝ }
     ensures idle { λ e. ⌜ Idle n (now (ring .exit)) (now (flag .exit)) ⌝ }
 {
@@ -137,7 +137,7 @@ fn attempt_in(
     j: usize,
     r: usize,
 ) -> End
-    requires { ⌜ Idle n (now ring) (now flag) × (length (now g) ≡ n * n) × Fair allen n (now g) × Held n (now cut) × (i < n) × (j < n) × (i ≡ j → ⊥) × (r < 13) ⌝ }
+    requires { ⌜ Idle n (now ring) (now flag) × Triable n i j r (now g) × Held n (now cut) ⌝ }
     ensures tried { λ e. ⌜ triedBy (ended e (take (n * n) (now (cut .exit)))) ≡ tryAt n (i, j) r (now (g .entry)) ⌝ }
     ensures idle { λ e. ⌜ Idle n (now (ring .exit)) (now (flag .exit)) ⌝ }
 {
@@ -206,15 +206,15 @@ fn settled(g: &[u16], n: usize, tries: u32, room: &mut [i32]) -> Looked
 
 // Closes a grid from the list of all pairs.
 fn close_all(ring: &mut [u16; 1024], flag: &mut [u8; 1024], g: &mut [u16], n: usize) -> End
-    requires { ⌜ Idle n (now ring) (now flag) × Fair allen n (now g) ⌝ }
-    ensures closed { λ e. ⌜ ended e (now (g .exit)) ≡ run allen n enough 0 (now (g .entry)) (allPairs n) ⌝ }
+    requires { ⌜ Idle n (now ring) (now flag) × (length (now g) ≡ n * n) × Fair allen n (now g) ⌝ }
+    ensures closed { λ e. ⌜ triedBy (ended e (now (g .exit))) ≡ closesTo allen n (now (g .entry)) ⌝ }
     ensures idle { λ e. ⌜ Idle n (now (ring .exit)) (now (flag .exit)) ⌝ }
 {
     let all = quick::all_waiting(ring, flag, n);
     takes::takes(g, ring, flag, n, all, ENOUGH)
 }
 
-// Copies an accepted grid to the front of a working grid, and closes it there.
+// Copies a grid to the front of a working grid, and closes it there.
 fn close_copy(
     ring: &mut [u16; 1024],
     flag: &mut [u8; 1024],
@@ -223,7 +223,7 @@ fn close_copy(
     n: usize,
 ) -> End
     requires { ⌜ Idle n (now ring) (now flag) × (length (now g) ≡ n * n) × Fair allen n (now g) × Held n (now work) ⌝ }
-    ensures closed { λ e. ⌜ triedBy (ended e (take (n * n) (now (work .exit)))) ≡ triedBy (run allen n enough 0 (now (g .entry)) (allPairs n)) ⌝ }
+    ensures closed { λ e. ⌜ triedBy (ended e (take (n * n) (now (work .exit)))) ≡ closesTo allen n (now (g .entry)) ⌝ }
     ensures idle { λ e. ⌜ Idle n (now (ring .exit)) (now (flag .exit)) ⌝ }
 {
     let cells = n * n;

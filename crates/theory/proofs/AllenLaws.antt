@@ -14,7 +14,7 @@ use Rattle.grid.specs.Cells.{cell}
 use Rattle.theory.specs.Quick.{cutTo}
 use Rattle.theory.specs.Fair.{Fair}
 use Rattle.theory.specs.Allen.{allen}
-use Rattle.theory.proofs.Lawful.{Lawful, EqLawful}
+use Rattle.theory.proofs.Lawful.{Lawful, OfSets, EqLawful}
 use Rattle.theory.proofs.TakeLaws.{Sized}
 use Rattle.theory.proofs.MeetLaws.{and-assoc, ones-less, ones-most}
 
@@ -37,6 +37,9 @@ lawful =
 -- a set inside all sets is below 8192
 pub top-lt : (a : ℕ) → bitAnd a 8191 ≡ a → a < 8192
 top-lt a e = omega (arith, and-le-r a 8191)
+
+pub of-sets : OfSets allen
+of-sets = record { members = and-inside; inside = inside-and; small = λ a b e h. omega (arith, and-le-r a b) }
 
 pub eq-lawful : EqLawful allen
 eq-lawful =

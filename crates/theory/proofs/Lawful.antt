@@ -1,6 +1,7 @@
 -- The laws of a calculus that closing uses, and no others. Assumes nothing.
 use mathlib.Core.Path.{_≡_}
-use Prim.Native.Nat.{ℕ}
+use Prim.Native.Nat.{ℕ, _<_}
+use Rattle.relation.specs.Sets.{Inside}
 use Rattle.theory.specs.Calculus.{Calculus, Sub}
 
 pub record Lawful (A : Calculus) : Type 0 where
@@ -14,6 +15,12 @@ pub record Lawful (A : Calculus) : Type 0 where
   pub comp-zero-l : (i k j b : ℕ) → A .comp i k j 0 b ≡ 0
   pub comp-zero-r : (i k j a : ℕ) → A .comp i k j a 0 ≡ 0
   pub conv-comp : (i k j a b : ℕ) → A .conv (A .comp i k j a b) ≡ A .comp j k i (A .conv b) (A .conv a)
+
+-- its sets are sets of the thirteen relations
+pub record OfSets (A : Calculus) : Type 0 where
+  pub members : (a b : ℕ) → Sub A a b → Inside a b
+  pub inside : (a b : ℕ) → a < 8192 → Inside a b → Sub A a b
+  pub small : (a b : ℕ) → Sub A a b → b < 8192 → a < 8192
 
 -- the laws of eq, used only where a grid without empty cells and without waiting pairs is shown closed
 pub record EqLawful (A : Calculus) : Type 0 where

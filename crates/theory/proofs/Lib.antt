@@ -1,5 +1,6 @@
 pub mod Lawful
 pub mod ClosingLaws
+pub mod LargestLaws
 pub mod LineLaws
 pub mod QuickLaws
 pub mod KeepLaws
@@ -15,5 +16,7 @@ pub mod MeetLaws
 pub mod AllenLaws
 pub mod GivenLaws
 pub mod SearchLaws
+pub mod FirstLaws
 pub mod TryLaws
+pub mod ClosesLaws
 pub mod PlacedLaws

@@ -1,5 +1,6 @@
 -- The scenario of any placing is a closed grid, so closing removes nothing that a placing uses. Assumes nothing.
-use mathlib.Core.Path.{_≡_, sym, _∙_, subst}
+use mathlib.Core.Path.{_≡_, sym, ap, _∙_, subst}
+use mathlib.Core.List.{List}
 use Prim.Native.Nat.{ℕ, _^_, _<_}
 use native.Mathlib.Omega.{arith}
 use lib.Bits.{bitAnd, and-le-r}
@@ -11,14 +12,20 @@ use Rattle.relation.specs.Composition.{compose}
 use Rattle.relation.proofs.Tested.{T-of, of-T}
 use Rattle.relation.proofs.SetLaws.{member-none, member-mark, mark-lt, and-inside, inside-and, same-inside}
 use Rattle.relation.proofs.LowestLaws.{some-member}
-use Rattle.relation.proofs.Relations.{relOf-lt}
+use Rattle.relation.proofs.Relations.{relOf-lt, exactly-one, holds-found}
 use Rattle.relation.proofs.Laws.{compose-placed}
+use Rattle.grid.specs.Cells.{cell}
+use Rattle.grid.specs.Meets.{Meets}
 use Rattle.theory.specs.Allen.{allen}
 use Rattle.theory.specs.Closing.{Cells, Closed, Within, Closing}
+use Rattle.theory.specs.Largest.{closingOf}
+use Rattle.theory.specs.Search.{emptied, closesTo}
+use Rattle.theory.proofs.AllenLaws.{lawful, of-sets}
+use Rattle.theory.proofs.LargestLaws.{closing-long, closing-right, closes-closed}
 
 -- ---- the set of one relation
 
-member-self : (r : ℕ) → r < 13 → T (member r (2 ^ r))
+pub member-self : (r : ℕ) → r < 13 → T (member r (2 ^ r))
 member-self r h = T-of (member-mark r r h h ∙ of-T (eqb r r) (eqb-refl r))
 
 pub member-only : (r s : ℕ) → r < 13 → s < 13 → T (member s (2 ^ r)) → s ≡ r
@@ -49,9 +56,17 @@ only-mark r a h e nz =
 abbrev pub scenarioOf : (ℕ → Event) → Cells
 scenarioOf P i j = 2 ^ relOf (P i) (P j)
 
--- the placing meets each cell
+-- the placing meets each cell, by the one relation of its two events
 abbrev pub Uses : ℕ → (ℕ → Event) → Cells → Type 0
 Uses n P G = (i j : ℕ) → i < n → j < n → T (member (relOf (P i) (P j)) (G i j))
+
+pub meets-uses : (n : ℕ) (g : List ℕ) (P : ℕ → Event) → Meets n g P → Uses n P (cell n g)
+meets-uses n g P m i j hi hj =
+    let w = m .each i j hi hj in
+    subst (λ (r : ℕ). T (member r (cell n g i j))) (sym (exactly-one (w .0) (P i) (P j) .0 (w .3))) (w .2)
+
+pub uses-meets : (n : ℕ) (g : List ℕ) (P : ℕ → Event) → Uses n P (cell n g) → Meets n g P
+uses-meets n g P u = record { each = λ i j hi hj. (relOf (P i) (P j), relOf-lt (P i) (P j), u i j hi hj, holds-found (P i) (P j)) }
 
 pub scenario-closed : (n : ℕ) (P : ℕ → Event) → Closed allen n (scenarioOf P)
 scenario-closed n P i j k hi hj hk =
@@ -73,6 +88,18 @@ uses-more n P G H w u i j hi hj = and-inside (G i j) (H i j) (w i j hi hj) .each
 pub closing-uses : (n : ℕ) (P : ℕ → Event) (G C : Cells) → Closing allen n G C → Uses n P G → Uses n P C
 closing-uses n P G C c u = within-uses n P C (c .largest (scenarioOf P) (scenario-closed n P) (uses-within n P G u))
 
--- no placing meets an empty closing
-pub empty-unused : (n : ℕ) (P : ℕ → Event) (G : Cells) (i : ℕ) → i < n → Closing allen n G (λ i j. 0) → Uses n P G → ⊥
-empty-unused n P G i h c u = subst T (member-none (relOf (P i) (P i))) (closing-uses n P G (λ i j. 0) c u i i h h)
+pub closing-meets : (n : ℕ) (g h : List ℕ) (P : ℕ → Event) → Closing allen n (cell n g) (cell n h) → Meets n g P → Meets n h P
+closing-meets n g h P c m = uses-meets n h P (closing-uses n P (cell n g) (cell n h) c (meets-uses n g P m))
+
+-- so something is left of a grid that a placing meets
+pub closes-some : (n : ℕ) (P : ℕ → Event) (g : List ℕ) → ((i j : ℕ) → i < n → j < n → cell n g i j < 8192) → Uses n P (cell n g) → closesTo allen n g ≡ emptied → ⊥
+closes-some n P g small u z =
+    let c = closing-right allen lawful of-sets n g small in
+    let v = closing-uses n P (cell n g) (cell n (closingOf allen n g)) c u in
+    let some = closes-closed allen lawful of-sets n g small (closingOf allen n g) (closing-long allen lawful of-sets n g) (λ i j hi hj e. used-some (relOf (P i) (P j)) (cell n (closingOf allen n g) i j) (v i j hi hj) e) c in
+    let w = sym z ∙ some in
+    let y : _≡_ {A = ℕ} 0 1 = cc in
+    omega arith
+  where
+    used-some : (r a : ℕ) → T (member r a) → a ≡ 0 → ⊥
+    used-some r a t e = subst T (ap (member r) e ∙ member-none r) t

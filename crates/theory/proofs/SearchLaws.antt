@@ -8,7 +8,7 @@ use native.Mathlib.Nat.{eq-or-lt-of-le}
 use native.Mathlib.Omega.{arith}
 use borrow.Author.Tests.{ltb-true, ltb-false, eqb-true, eqb-false}
 use lib.Dec.{eqb, ltb}
-use Rattle.theory.specs.Search.{Pair, Tried, emptied, closed, Found, placed, none, gaveUp, orNext, afterTry, tryIf, turnOf, relationsFrom, pastLast, searchFrom}
+use Rattle.theory.specs.Search.{Pair, Tried, emptied, closed, Found, placed, none, gaveUp, orNext, afterTry, tryIf, turnOf, relationsFrom, pastLast, searchFrom, All, NoLater}
 
 lt-or-ge : (m n : ℕ) → (m < n) ⊎ (n ≤ m)
 lt-or-ge m n = go (ltb m n) refl
@@ -118,18 +118,8 @@ pub record Searchable (there : Pair → ℕ → List ℕ → Bool) (attempt : Pa
   pub fit : (g : List ℕ) → Good [] g → fits g ≡ true → (σ : S) × In σ g
   pub unfit : (g : List ℕ) → Good [] g → fits g ≡ false → (σ : S) → In σ g → ⊥
 
--- of all pairs
-abbrev pub All : (Pair → Type 0) → List Pair → Type 0
-All P [] = Unit {0}
-All P (p ∷ ps) = P p × All P ps
-
 module _ (there : Pair → ℕ → List ℕ → Bool) (attempt : Pair → ℕ → List ℕ → Tried) (fits : List ℕ → Bool) (a : ℕ) (S : Type 0) (rel : S → Pair → ℕ)
     (In : S → List ℕ → Type 0) (Ok : Pair → Type 0) (Good : List Pair → List ℕ → Type 0) (L : Searchable there attempt fits S rel In Ok Good) where
-  -- τ comes no later than σ in the order of the pairs
-  abbrev pub NoLater : List Pair → S → S → Type 0
-  NoLater [] τ σ = Unit {0}
-  NoLater (p ∷ ps) τ σ = (rel τ p < rel σ p) ⊎ ((rel τ p ≡ rel σ p) × NoLater ps τ σ)
-
   module _ (rest : List ℕ → ℕ → Found) (p : Pair) (ps : List Pair) (g : List ℕ) (ok : Ok p) (gd : Good (p ∷ ps) g)
       (rest-none : (g' : List ℕ) (t t' : ℕ) → Good ps g' → rest g' t ≡ none t' → (σ : S) → In σ g' → ⊥) where
     -- the turn of σ's relation went to the cells after this one
@@ -235,7 +225,7 @@ module _ (there : Pair → ℕ → List ℕ → Bool) (attempt : Pair → ℕ �
     pub good : Good [] g'
     pub fitting : fits g' ≡ true
     pub inside : (σ : S) → In σ g' → In σ g
-    pub first : (τ σ : S) → In τ g' → In σ g → NoLater ps τ σ
+    pub first : (τ σ : S) → In τ g' → In σ g → NoLater ps (rel τ) (rel σ)
 
   step : (p : Pair) (ps : List Pair) (g g' : List ℕ) (o : Found) (rest : List ℕ → ℕ → Found) → Ok p → Good (p ∷ ps) g → (x : Taken rest p g 0 o)
       → Right ps (x .grid) g' → Right (p ∷ ps) g g'
@@ -268,14 +258,6 @@ module _ (there : Pair → ℕ → List ℕ → Bool) (attempt : Pair → ℕ �
       (λ u e. gave-placed e) (λ u e. none-placed e) h in
       step p ps g g' (placed t' g') rest (oks .0) gd x
       (placed-right ps (x .grid) g' (x .tries) t' (oks .1) (L .good p ps (x .at) g (x .grid) (oks .0) (x .high) (x .is-there) gd (x .closes)) (x .below))
-
-  -- two scenarios, of which neither is later, are the same on the pairs
-  pub one-first : (ps : List Pair) (τ σ : S) → NoLater ps τ σ → NoLater ps σ τ → All (λ p. rel τ p ≡ rel σ p) ps
-  one-first [] τ σ x y = tt
-  one-first (p ∷ ps) τ σ (inl l) (inl m) = absurd (omega arith)
-  one-first (p ∷ ps) τ σ (inl l) (inr m) = absurd (omega (arith, m .0))
-  one-first (p ∷ ps) τ σ (inr l) (inl m) = absurd (omega (arith, l .0))
-  one-first (p ∷ ps) τ σ (inr l) (inr m) = (l .0, one-first ps τ σ (l .1) (m .1))
 
 -- ---- gave up: exactly the allowance was used
 

@@ -1,8 +1,8 @@
 -- Closing again from the one pair that was cut: a closed grid in which a pair was cut, with that pair waiting alone, is settled. Assumes nothing.
-use mathlib.Core.Path.{_≡_, sym, _∙_, subst}
+use mathlib.Core.Path.{_≡_, subst}
 use mathlib.Core.Logic.{inl, inr}
 use mathlib.Core.List.{List, [], _∷_}
-use Prim.Native.Nat.{ℕ, suc, _/_, _%_, _≤_, _<_}
+use Prim.Native.Nat.{ℕ, suc, _≤_, _<_}
 use native.Mathlib.Decide.{ℕ-discrete}
 use native.Mathlib.Nat.{mul-le-mul-right}
 use native.Mathlib.Omega.{arith}
@@ -12,7 +12,7 @@ use Rattle.theory.specs.Calculus.{Calculus, Sub}
 use Rattle.theory.specs.Closing.{Closed, Within}
 use Rattle.theory.specs.Fair.{Fair}
 use Rattle.theory.specs.Line.{IsPair, pairOf, occurs, allPairs}
-use Rattle.theory.specs.Quick.{going, turns, closed, paused, run}
+use Rattle.theory.specs.Quick.{paused, run}
 use Rattle.theory.proofs.Lawful.{Lawful, EqLawful}
 use Rattle.theory.proofs.ClosingLaws.{IsPut, put-within, sub-trans}
 use Rattle.theory.proofs.KeepLaws.{put-both}
@@ -20,22 +20,7 @@ use Rattle.theory.proofs.FairLaws.{fair-good, put-fair}
 use Rattle.theory.proofs.LineLaws.{occurs-cons-same, occurs-cons-other, occurs-nil, pair-same, pair-swap, pair-ok}
 use Rattle.theory.proofs.SettledLaws.{Settled, Served, Pairs, Resting, Right, run-ok}
 use Rattle.theory.proofs.StartLaws.{waits-all}
-use Rattle.theory.proofs.StepLaws.{turn-still, left-all, left-still, rest-all, rest-going, rest-closed}
 use Rattle.theory.proofs.TakeLaws.{Sized, Bounded, store-most, run-bound}
-
--- a closed grid with one pair waiting is left as it is
-pub try-nothing : (A : Calculus) (n : ℕ) (g : List ℕ) → Closed A n (cell n g) → (p : ℕ) → IsPair n p → (f : ℕ) → run A n (suc f) 0 g (p ∷ []) ≡ closed 1 g
-try-nothing A n g cl p ok f =
-    sym (rest-all A n (suc f) g (p ∷ [])) ∙ rest-going A n (suc f) 0 g p [] (omega arith) g [] taken ∙ rest-closed A n (suc f) 1 g
-  where
-    hi : p / 32 < n
-    hi = omega (arith, ok .0, ok .1)
-
-    taken : turns A n (p / 32) (p % 32) n 0 g [] ≡ going g []
-    taken =
-        sym (left-all A n (p / 32) (p % 32) g [])
-        ∙ left-still A n (p / 32) (p % 32) g []
-        (λ k hk. turn-still A n (p / 32) (p % 32) k g [] (cl (p / 32) k (p % 32) hi hk (ok .1)) (cl k (p % 32) (p / 32) hk (ok .1) hi)) n 0 (omega arith)
 
 occurs-most : (p : ℕ) (q : List ℕ) → occurs p q ≤ length q
 unfolding occurs
@@ -58,7 +43,7 @@ module _ (A : Calculus) (L : Lawful A) (n : ℕ) (h : List ℕ) (F : Fair A n h)
   pub cut-inside : Within A n (cell n g) (cell n h)
   cut-inside = put-within A L n (cell n h) (cell n g) x y v is-put (F .fine .mirrored) hx hy inside
 
-  cut-topped : (i j : ℕ) → i < n → j < n → Sub A (cell n g i j) (A .top i j)
+  pub cut-topped : (i j : ℕ) → i < n → j < n → Sub A (cell n g i j) (A .top i j)
   cut-topped i j hi hj = sub-trans A L (cell n g i j) (cell n h i j) (A .top i j) (cut-inside i j hi hj) (F .fine .topped i j hi hj)
 
   module _ (nz : v ≡ 0 → ⊥) where

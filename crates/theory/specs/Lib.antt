@@ -1,5 +1,6 @@
 pub mod Calculus
 pub mod Closing
+pub mod Largest
 pub mod Fair
 pub mod Line
 pub mod Quick
@@ -7,3 +8,4 @@ pub mod Cuts
 pub mod Sweeps
 pub mod Allen
 pub mod Search
+pub mod Tried

@@ -1,8 +1,13 @@
 -- Document 01, "Looking for a placing": the search over a list of pairs, for any closing. Assumes nothing.
-use Prim.Native.Nat.{ℕ, zero, suc, _+_, _-_}
+use mathlib.Core.Path.{_≡_}
+use mathlib.Core.Logic.{_⊎_}
+use Prim.Native.Nat.{ℕ, zero, suc, _+_, _-_, _<_}
 use mathlib.Core.List.{List, [], _∷_, _++_}
 use mathlib.Core.Bool.{Bool, true, false}
 use lib.Dec.{eqb}
+use Rattle.grid.specs.Cells.{someEmpty}
+use Rattle.theory.specs.Calculus.{Calculus}
+use Rattle.theory.specs.Largest.{closingOf}
 
 -- a pair of events, i to j
 abbrev pub Pair : Type 0
@@ -12,6 +17,14 @@ Pair = ℕ × ℕ
 pub data Tried : Type 0 where
   emptied : Tried
   closed : List ℕ → Tried
+
+-- what closing a grid leaves of it
+abbrev pub unlessEmpty : Bool → List ℕ → Tried
+unlessEmpty true h = emptied
+unlessEmpty false h = closed h
+
+unfoldable pub closesTo : Calculus → ℕ → List ℕ → Tried
+closesTo A n g = unlessEmpty (someEmpty (closingOf A n g)) (closingOf A n g)
 
 -- how a search ends, with its tries
 pub data Found : Type 0 where
@@ -71,3 +84,15 @@ rows i (suc k) = row i (i + 1) (suc k) ++ rows (i + 1) k
 -- the cells (i, j), i < j, of n events from (i, j) on, in row order
 unfoldable pub pairsFrom : ℕ → ℕ → ℕ → List Pair
 pairsFrom n i j = row i j (n - j) ++ rows (i + 1) (n - (i + 2))
+
+-- ---- which scenario comes first
+
+-- of all pairs of a list
+abbrev pub All : (Pair → Type 0) → List Pair → Type 0
+All P [] = Unit {0}
+All P (p ∷ ps) = P p × All P ps
+
+-- One scenario, a relation for each pair, comes no later than another: at the first of the pairs where they differ it has the smaller number.
+abbrev pub NoLater : List Pair → (Pair → ℕ) → (Pair → ℕ) → Type 0
+NoLater [] σ τ = Unit {0}
+NoLater (p ∷ ps) σ τ = (σ p < τ p) ⊎ ((σ p ≡ τ p) × NoLater ps σ τ)

@@ -12,7 +12,6 @@ use Rattle.theory.proofs.GivenLaws.{fair}
 use Rattle.theory.proofs.PlainLaws.{cuts-fair, dead-then, cuts-trans}
 use Rattle.plain.proofs.RouteLaws.{pass-dead, pass-moved, all-still}
 use borrow.Author.Needs.{needs}
-use native.Mathlib.Omega.{arith}
 use Rattle.plain.proofs.sweep_accepted.Statement.{statement}
 use Rattle.plain.proofs.sweep_accepted.Tie as tie
 

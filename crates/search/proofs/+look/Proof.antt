@@ -11,8 +11,7 @@ use Rattle.takes.specs.Waiting.{Idle}
 use Rattle.search.specs.Rule.{thereAt, tryAt, searchAt}
 use Rattle.search.specs.Steps.{after}
 use Rattle.search.proofs.RuleLaws.{from, from-end, from-spent, from-past, after-next, square}
-use Rattle.search.proofs.TryRight.{searched-fair}
-use Rattle.search.proofs.LookLaws.{there-is, next-searched, look-start, look-end, turn-emptied, turn-none, turn-kept, shows-gave-up, shows-none, shows-passed, shows-next, step-at, tries-left, stands-in}
+use Rattle.search.proofs.LookLaws.{there-is, triable, next-searched, look-start, look-end, turn-emptied, turn-none, turn-kept, shows-gave-up, shows-none, shows-passed, shows-next, step-at, tries-left, stands-in}
 use borrow.Fn.Kinds.{In}
 use borrow.Fn.PlainCycle.{Measures, is, falls, and}
 use Rattle.search.proofs.look.Reads as look
@@ -135,8 +134,12 @@ look-attempt-in-requires t c κs =
     let L = c .before .before .before .before .before .before .before .before in
     let I = L .before in
     let s = I .before .before .before .before .pre .1 in
-    let w = stands-in _ _ _ (I .before .before .pass-decided .ensures .stands) (omega (arith, I .if1 .left)) in
-    (L .loop .inv .4, s .2 .accepted .long, searched-fair _ _ (s .2), record { few = s .1 .at .few; fits = omega (arith, L .loop .inv .5, square _ (s .1 .at .few) .1) }, w .0, w .1, w .2, c .before .before .before .before .before .before .before .loop-test .taken)
+    let P = I .before .before .pass-decided .ensures .stands in
+    let U = c .before .before .before .before in (
+      L .loop .inv .4,
+      triable _ _ _ _ _ (s .2) P (omega (arith, I .if1 .left)) (c .before .before .before .before .before .before .before .loop-test .taken) (there-is _ _ _ _ _ _ _ _ (U .before .before .get .ensures) (U .before .has .ensures) (U .if2 .taken)),
+      record { few = s .1 .at .few; fits = omega (arith, L .loop .inv .5, square _ (s .1 .at .few) .1) },
+    )
 
 look-enum-known-answer : (t : ℕ) → look-lts.Need-enum-known-answer (claims t) (look-at t) look.Post look-Inv-loop look-μ-loop
 look-enum-known-answer t c = search needs
@@ -192,13 +195,12 @@ look-look-requires t c κs =
     let P = L .before .before .before .pass-decided .ensures in
     let some = L .before .if1 .left in
     let w = stands-in _ _ _ (P .stands) (omega (arith, some)) in
-    let there = there-is _ _ _ _ _ _ _ _ (U .before .before .get .ensures) (U .before .has .ensures) (U .if2 .taken) in
-    let long = length-take-le (n * n) (tried .last .1 .1 .1 .0) (omega (arith, tried .kept .1 .1 .1 .0, v .5, square _ (s .pre .1 .1 .at .few) .1)) in (
+    let there = there-is _ _ _ _ _ _ _ _ (U .before .before .get .ensures) (U .before .has .ensures) (U .if2 .taken) in (
       omega (arith, s .pre .0, some, P .fewer, stepped .left),
       (
         tried .ensures .1,
         record { at = step-at _ _ _ _ stepped (P .stands .at) (w .1); within = omega (arith, stepped .tries, tries-left _ _ (v .1) (c .before .before .before .before .before .before .before .before .before .before .before .before .before .if3 .left)) },
-        next-searched _ _ _ _ _ _ _ _ (P .stands .at .upper) (w .1) (U .before .before .before .loop-test .taken) there (s .pre .1 .2) (tried .ensures .0) (c .before .before .before .before .before .before .answer .given .1) long,
+        next-searched _ _ _ _ _ _ _ _ (triable _ _ _ _ _ (s .pre .1 .2) (P .stands) (omega (arith, some)) (U .before .before .before .loop-test .taken) there) (tried .ensures .0) (c .before .before .before .before .before .before .answer .given .1),
         ap length (v .2) ∙ s .pre .1 .3,
       ),
     )

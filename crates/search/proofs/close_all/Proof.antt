@@ -1,6 +1,8 @@
--- The run starts from the list of all pairs.
-use mathlib.Core.Path.{ap, _∙_}
+-- The takes from the list of all pairs close the grid.
+use mathlib.Core.Path.{sym, ap, _∙_}
 use Rattle.theory.specs.Quick.{run}
+use Rattle.theory.specs.Tried.{triedBy}
+use Rattle.search.proofs.RuleLaws.{closes-by-takes}
 use borrow.Author.Needs.{needs}
 use Rattle.search.proofs.close_all.Statement.{statement}
 use Rattle.search.proofs.close_all.Tie as tie
@@ -17,7 +19,10 @@ same-length c = search needs
 returns : tie.Need-returns
 returns c =
     let T = c .before .before in
-    (T .takes .ensures .0 ∙ ap (run _ _ _ _ _) (T .before .before .before .before .all-waiting .ensures .1), T .takes .ensures .1)
+    let s = T .before .before .before .before .before .before .before .before .pre in (
+      ap triedBy (T .takes .ensures .0 ∙ ap (run _ _ _ _ _) (T .before .before .before .before .all-waiting .ensures .1)) ∙ sym (closes-by-takes _ _ (s .2) (s .1)),
+      T .takes .ensures .1,
+    )
 
 pub close-all-spec : {M : Type 1} → statement M
 close-all-spec = tie.close (tie.spec all-waiting-requires takes-requires same-length returns)

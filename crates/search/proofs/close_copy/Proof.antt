@@ -6,11 +6,10 @@ use lib.ListN.{length, take}
 use lib.Seq.{length-take-le, take-at}
 use Rattle.grid.proofs.CellLaws.{copied-front}
 use Rattle.theory.specs.Allen.{allen}
-use Rattle.theory.specs.Line.{allPairs}
-use Rattle.theory.specs.Quick.{run}
+use Rattle.theory.specs.Search.{closesTo}
+use Rattle.theory.specs.Tried.{triedBy}
 use Rattle.theory.specs.Fair.{Fair}
 use Rattle.takes.specs.Steps.{ended}
-use Rattle.search.specs.Rule.{enough, triedBy}
 use native.Mathlib.Omega.{arith}
 use borrow.Author.Needs.{needs}
 use Rattle.search.proofs.close_copy.Statement.{statement}
@@ -36,7 +35,7 @@ close-all-requires c κs =
     let s = C .before .before .before .before in
     let m = s .args .n * s .args .n in
     let same : take m (C .copy .last .0) ≡ s .args .g .now = ap (take m) (C .copy .ensures) ∙ copied-front (s .args .g .now) (s .args .work .now) m (s .pre .1) in
-    (s .pre .0, subst (Fair allen (s .args .n)) (sym same) (s .pre .2))
+    (s .pre .0, ap length same ∙ s .pre .1, subst (Fair allen (s .args .n)) (sym same) (s .pre .2))
 
 same-length : tie.Need-same-length
 same-length c = search needs
@@ -52,7 +51,7 @@ returns c =
     let fits : m ≤ length (copied .last .0) = omega (arith, copied .kept .0, s .pre .3 .fits) in
     let same : take m (copied .last .0) ≡ g = ap (take m) (copied .ensures) ∙ copied-front g (s .args .work .now) m (s .pre .1) in (
       ap (λ (l : List ℕ). triedBy (ended (tried .result) l)) (take-at _ _ _ (tried .kept .1 .1 .0 ∙ length-take-le m (copied .last .0) fits))
-          ∙ ap triedBy (tried .ensures .0 ∙ ap (λ (x : List ℕ). run allen (s .args .n) enough 0 x (allPairs (s .args .n))) same),
+          ∙ tried .ensures .0 ∙ ap (closesTo allen (s .args .n)) same,
       tried .ensures .1,
     )
 

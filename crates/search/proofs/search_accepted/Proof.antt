@@ -18,7 +18,7 @@ some-empty-requires : tie.Need-some-empty-requires
 some-empty-requires c κs = search needs
 
 returns : tie.Need-returns
-returns c = answers-none _ _ _ (search-empty _ _ _ (sym (c .before .some-empty .ensures) ∙ c .if1 .taken))
+returns c = answers-none _ _ _ (search-empty _ _ _ (c .before .before .before .pre .0) (sym (c .before .some-empty .ensures) ∙ c .if1 .taken))
 
 slice-aggregate-close-copy : tie.Need-slice-aggregate-close-copy
 slice-aggregate-close-copy c = search needs
@@ -38,7 +38,7 @@ returns-2 c =
     let test = closing .before .before .before .before in
     let s = test .before .before .before .args in
     answers-none _ _ _
-    (search-from _ _ _ (sym (test .before .some-empty .ensures) ∙ test .if1 .left) _ (closing .close-copy .ensures .0)
+    (search-from _ _ _ _ (closing .close-copy .ensures .0)
     ∙ ap (fromClosed _ _) (no-grid (closing .close-copy .result) (take (s .n * s .n) (closing .close-copy .last .1 .1 .1 .0)) (c .match .keys2)))
 
 mul-cells : tie.Need-mul-cells
@@ -59,11 +59,10 @@ look-requires c κs =
     let test = closing .before .before .before .before in
     let s = test .before .before .before in
     let n = s .args .n in
-    let h = closing .close-copy .last .1 .1 .1 .0 in
-    let long = length-take-le (n * n) h (omega (arith, closing .close-copy .kept .1 .1 .1 .0, square _ (s .pre .0 .few) .1)) in (
+    let h = closing .close-copy .last .1 .1 .1 .0 in (
       closing .close-copy .ensures .1,
       record { at = at-first _ (s .pre .0 .few); within = omega arith },
-      first-searched _ _ (s .pre .0) (sym (test .before .some-empty .ensures) ∙ test .if1 .left) (closing .close-copy .result) _ (take (n * n) h) (closing .close-copy .ensures .0) (c .before .before .before .before .before .first .given .1) long,
+      first-searched _ _ (s .pre .0) (closing .close-copy .result) _ (take (n * n) h) (closing .close-copy .ensures .0) (c .before .before .before .before .before .first .given .1),
       s .pre .1,
     )
 
@@ -80,7 +79,7 @@ returns-3 c =
     let test = closing .before .before .before .before in
     let s = test .before .before .before .args in
     answers-shown _ _ _ _ _ _ _ _
-    (search-from _ _ _ (sym (test .before .some-empty .ensures) ∙ test .if1 .left) _ (closing .close-copy .ensures .0)
+    (search-from _ _ _ _ (closing .close-copy .ensures .0)
     ∙ ap (fromClosed _ _) (a-grid (closing .close-copy .result) _ (take (s .n * s .n) (closing .close-copy .last .1 .1 .1 .0)) (known .first .given .1)))
     (c .before .before .look .ensures .0) (c .answer-of .ensures)
 
