@@ -1,5 +1,5 @@
 -- Where a cell stands, and what a put changes. Assumes nothing.
-use mathlib.Core.Path.{_≡_, refl, ap, sym, _∙_}
+use mathlib.Core.Path.{_≡_, refl, ap, sym, _∙_, subst}
 use mathlib.Core.List.{List, [], _∷_, _++_}
 use Prim.Native.Nat.{ℕ, zero, suc, _+_, _*_, _/_, _%_, _≤_, _<_}
 use native.Mathlib.Nat.{mul-le-mul, zero-lt-suc, mod-lt, div-add-mod', div-lt-iff-lt-mul}
@@ -8,8 +8,8 @@ use native.Mathlib.Decide.{decLt}
 use native.Mathlib.Omega.{arith}
 use lib.Arith.{digits-lt, digits-div, digits-mod}
 use lib.ListN.{length, getD, set, length-set, take, drop, replicate, length-append, List·getD-append}
-use lib.Seq.{getD-at, getD-set-same, getD-set-other, length-take-le, take-suc, drop-cons, append-snoc, set-at, set-getD, take-at, take-all}
-use Rattle.grid.specs.Cells.{upTo, cell, put, putBoth}
+use lib.Seq.{ext-getD, getD-at, getD-set-same, getD-set-other, length-take-le, take-suc, drop-cons, append-snoc, set-at, set-getD, take-at, take-all}
+use Rattle.grid.specs.Cells.{upTo, cell, put, putBoth, EmptyCell}
 
 -- ---- a list by its entries
 
@@ -112,6 +112,10 @@ pub cell-cleared : (n k i j : ℕ) → cell n (replicate k 0) i j ≡ 0
 unfolding cell
 cell-cleared n k i j = zeros k (i * n + j)
 
+-- where there is an event, a cleared grid has an empty cell
+pub cleared-empty : (n : ℕ) → 0 < n → EmptyCell n (replicate (n * n) 0)
+cleared-empty n h = (0, 0, h, h, cell-cleared n (n * n) 0 0)
+
 -- ---- from a place to its cell
 
 -- the row and the column of a place
@@ -128,3 +132,13 @@ found n p h =
     pos-of : (n : ℕ) → p < n * n → 0 < n
     pos-of zero h = absurd (omega arith)
     pos-of (suc n) h = zero-lt-suc n
+
+-- two grids of n events with the same cells are the same list
+pub same-cells : (n : ℕ) (g h : List ℕ) → length g ≡ n * n → length h ≡ n * n → ((i j : ℕ) → i < n → j < n → cell n g i j ≡ cell n h i j) → g ≡ h
+unfolding cell
+same-cells n g h eg eh same = ext-getD 0 g h (eg ∙ sym eh) (λ p lt. at p (subst (λ (l : ℕ). p < l) eg lt))
+  where
+    at : (p : ℕ) → p < n * n → getD g p 0 ≡ getD h p 0
+    at p lt =
+        let f : Found n p = found n p lt in
+        subst (λ (x : ℕ). getD g x 0 ≡ getD h x 0) (f .back) (same (p / n) (p % n) (f .row) (f .column))
