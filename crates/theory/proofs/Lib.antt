@@ -14,6 +14,7 @@ pub mod CutsLaws
 pub mod MeetLaws
 pub mod AllenLaws
 pub mod GivenLaws
+pub mod EndLaws
 pub mod SearchLaws
 pub mod TryLaws
 pub mod PlacedLaws
