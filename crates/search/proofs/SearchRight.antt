@@ -1,38 +1,31 @@
 -- What the answers of the search mean for the given grid. Assumes nothing.
-use mathlib.Core.Path.{_≡_, refl, sym, ap, subst, _∙_}
-use mathlib.Core.Bool.{Bool, true, false}
+use mathlib.Core.Path.{_≡_, refl, sym, subst, _∙_}
 use mathlib.Core.Logic.{_⊎_, inl, inr, ⊎-elim}
 use mathlib.Core.List.{List, [], _∷_, _++_}
-use Prim.Native.Nat.{ℕ, zero, suc, _+_, _-_, _*_, _≤_, _<_}
+use Prim.Native.Nat.{ℕ, zero, suc, _+_, _-_, _≤_, _<_}
 use native.Mathlib.Decide.{ℕ-discrete}
 use native.Mathlib.Omega.{arith}
-use lib.Dec.{T, eqb}
+use lib.Dec.{T}
 use lib.IntN.{ℤ}
-use lib.ListN.{length, getD}
 use Rattle.relation.specs.Comparing.{relOf}
 use Rattle.relation.specs.Meaning.{Event}
 use Rattle.relation.specs.Sets.{member}
-use Rattle.relation.proofs.Tested.{some-no}
 use Rattle.relation.proofs.Rank.{In as Among, here, there}
 use Rattle.relation.proofs.Relations.{holds-found}
-use Rattle.grid.specs.Cells.{cell, someEmpty}
+use Rattle.grid.specs.Cells.{cell}
 use Rattle.grid.specs.Accepted.{Accepted}
 use Rattle.grid.specs.Meets.{Meets}
 use Rattle.theory.specs.Allen.{allen}
 use Rattle.theory.specs.Closing.{Closing}
-use Rattle.theory.specs.Line.{allPairs, rowsTo}
 use Rattle.theory.specs.Quick as quick
 use Rattle.theory.specs.Search.{Pair, closed, Found, placed, none, gaveUp, row, rows, pairsFrom, searchFrom}
 use Rattle.theory.proofs.AllenLaws.{lawful}
-use Rattle.theory.proofs.GivenLaws.{fair}
 use Rattle.theory.proofs.FairLaws.{good-fair}
-use Rattle.theory.proofs.QuickRight.{start}
-use Rattle.theory.proofs.SettledLaws.{Right, LeavesGood, run-good}
-use Rattle.theory.proofs.TakeLaws.{Bounded}
+use Rattle.theory.proofs.SettledLaws.{Right}
 use Rattle.theory.proofs.PlacedLaws.{Uses, uses-more, closing-uses, empty-unused}
 use Rattle.theory.proofs.SearchLaws as search
 use Rattle.quick.specs.Answers.{quickRule}
-use Rattle.quick.proofs.RuleLaws.{rule-empty, rule-run, rule-right, rule-bound}
+use Rattle.quick.proofs.RuleLaws.{rule-right, rule-good, rule-event, rule-paused}
 use Rattle.placing.specs.Placing.{Places}
 use Rattle.placing.specs.Settling.{settles, placingOf}
 use Rattle.placing.proofs.SettleLaws.{settled-meets, placing-gapless}
@@ -147,56 +140,25 @@ at-is n a h q = q
 
 -- ---- the first closing
 
-run-none : (n f t : ℕ) (g : List ℕ) → quick.run allen n f t g [] ≡ quick.closed t g
-unfolding quick.run
-run-none n zero t g = refl
-run-none n (suc f) t g = refl
-
--- no events: nothing waits
-no-events : (g : List ℕ) → length g ≡ 0 → quickRule 0 enough g ≡ quick.closed 0 g
-unfolding allPairs rowsTo
-no-events g l =
-    rule-run 0 enough g (some-no (length g) (λ p. eqb (getD g p 0) 0) (λ i h. absurd (omega arith))) ∙ run-none 0 enough 0 g
-
 module _ (n : ℕ) (g : List ℕ) (a : Accepted n g) where
-  -- there is an event where the closing is empty
-  event : (t : ℕ) → quickRule n enough g ≡ quick.contradiction t → 0 < n
-  event t q = go (ℕ-discrete n 0)
-    where
-      go : Dec (n ≡ 0) → 0 < n
-      go (no ne) = omega arith
-      go (yes e) =
-          let z = sym (no-events g (a .long ∙ ap (λ (m : ℕ). m * m) e)) ∙ subst (λ (m : ℕ). quickRule m enough g ≡ quick.contradiction t) e q in
-          absurd (let y : _≡_ {A = ℕ} 0 1 = cc in omega arith)
-
   never-paused : (t : ℕ) (h : List ℕ) → quickRule n enough g ≡ quick.paused t h → ⊥
-  never-paused t h q =
-      let b = rule-bound n g a enough in
-      let w : Bounded enough (b .0) (quick.paused t h) = subst (Bounded enough (b .0)) q (b .3) in
-      omega (arith, b .2, w .1)
+  never-paused t h q = omega (arith, rule-paused n g a enough t h q .1)
 
   record First (h : List ℕ) : Type 0 where
     closing : Closing allen n (cell n g) (cell n h)
     ready : Ready n (pairsFrom n 0 1) h
 
   first : (t : ℕ) (h : List ℕ) → quickRule n enough g ≡ quick.closed t h → First h
-  first t h q = go (someEmpty g) refl
-    where
-      go : (b : Bool) → someEmpty g ≡ b → First h
-      go true e = absurd (let z = sym (rule-empty n enough g e) ∙ q in let y : _≡_ {A = ℕ} 0 1 = cc in omega arith)
-      go false e =
-          let c : Closing allen n (cell n g) (cell n h) = subst (Right allen n g) q (rule-right n g a enough) in
-          let G =
-          subst (LeavesGood allen n g) (sym (rule-run n enough g e) ∙ q)
-          (run-good allen lawful n (a .few) g enough 0 g (allPairs n) (start allen lawful n g (fair n g a e))) in
-          record {
-            closing = c;
-            ready =
-                record {
-                  whole = record { fair = good-fair allen lawful n g h (a .few) G; closed = c .closed };
-                  decided = λ p o. inl (pairs-have n (p .0) (p .1) (o .0) (o .1));
-                };
-          }
+  first t h q =
+      let c : Closing allen n (cell n g) (cell n h) = subst (Right allen n g) q (rule-right n g a enough) in
+      record {
+        closing = c;
+        ready =
+            record {
+              whole = record { fair = good-fair allen lawful n g h (a .few) (rule-good n g a enough t h q); closed = c .closed };
+              decided = λ p o. inl (pairs-have n (p .0) (p .1) (o .0) (o .1));
+            };
+      }
 
   pub first-whole : (h : List ℕ) → triedBy (quickRule n enough g) ≡ closed h → Whole n h
   first-whole h = go (quickRule n enough g) refl
@@ -215,7 +177,7 @@ module _ (n : ℕ) (g : List ℕ) (a : Accepted n g) where
       where
         go : (e : quick.Ended) → quickRule n enough g ≡ e → fromClosed n allowance (triedBy e) ≡ none t → ⊥
         go (quick.contradiction u) k z =
-            empty-unused n P (cell n g) 0 (event u k) (subst (Right allen n g) k (rule-right n g a enough)) (meets-uses n g P m)
+            empty-unused n P (cell n g) 0 (rule-event n g a enough u k) (subst (Right allen n g) k (rule-right n g a enough)) (meets-uses n g P m)
         go (quick.closed u h) k z =
             let f = first u h k in
             search.none-right (thereAt n) (tryAt n) (settles n) allowance (ℕ → Event) (λ P p. relOf (P (p .0)) (P (p .1))) (λ P g. Uses n P (cell n g))
