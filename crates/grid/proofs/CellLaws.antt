@@ -1,5 +1,5 @@
 -- Where a cell stands, and what a put changes. Assumes nothing.
-use mathlib.Core.Path.{_≡_, refl, ap, sym, subst, _∙_}
+use mathlib.Core.Path.{_≡_, refl, ap, sym, _∙_, subst}
 use mathlib.Core.List.{List, [], _∷_, _++_}
 use Prim.Native.Nat.{ℕ, zero, suc, _+_, _*_, _/_, _%_, _≤_, _<_}
 use native.Mathlib.Nat.{mul-le-mul, zero-lt-suc, mod-lt, div-add-mod', div-lt-iff-lt-mul}
@@ -9,7 +9,7 @@ use native.Mathlib.Omega.{arith}
 use lib.Arith.{digits-lt, digits-div, digits-mod}
 use lib.ListN.{length, getD, set, length-set, take, drop, replicate, length-append, List·getD-append}
 use lib.Seq.{ext-getD, getD-at, getD-set-same, getD-set-other, length-take-le, take-suc, drop-cons, append-snoc, set-at, set-getD, take-at, take-all}
-use Rattle.grid.specs.Cells.{upTo, cell, put, putBoth}
+use Rattle.grid.specs.Cells.{upTo, cell, put, putBoth, EmptyCell}
 
 -- ---- a list by its entries
 
@@ -111,6 +111,10 @@ zeros (suc k) (suc p) = zeros k p
 pub cell-cleared : (n k i j : ℕ) → cell n (replicate k 0) i j ≡ 0
 unfolding cell
 cell-cleared n k i j = zeros k (i * n + j)
+
+-- where there is an event, a cleared grid has an empty cell
+pub cleared-empty : (n : ℕ) → 0 < n → EmptyCell n (replicate (n * n) 0)
+cleared-empty n h = (0, 0, h, h, cell-cleared n (n * n) 0 0)
 
 -- ---- from a place to its cell
 

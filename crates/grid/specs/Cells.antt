@@ -1,7 +1,8 @@
 -- Document 01, "Grids": a grid of n events is a list of sets; cell (i, j) is at place i * n + j. Assumes nothing.
+use mathlib.Core.Path.{_≡_}
 use mathlib.Core.Bool.{Bool}
 use mathlib.Core.List.{List, [], _∷_, _++_}
-use Prim.Native.Nat.{ℕ, zero, suc, _+_, _*_, _≤_}
+use Prim.Native.Nat.{ℕ, zero, suc, _+_, _*_, _≤_, _<_}
 use lib.Dec.{eqb}
 use lib.ListN.{length, getD, set}
 use Rattle.relation.specs.Sets.{some}
@@ -30,3 +31,7 @@ pub record Held (n : ℕ) (g : List ℕ) : Type 0 where
 -- some cell is empty
 abbrev pub someEmpty : List ℕ → Bool
 someEmpty g = some (length g) (λ p. eqb (getD g p 0) 0)
+
+-- a cell of n events is empty
+abbrev pub EmptyCell : ℕ → List ℕ → Type 0
+EmptyCell n g = (i : ℕ) × (j : ℕ) × (i < n) × (j < n) × (cell n g i j ≡ 0)

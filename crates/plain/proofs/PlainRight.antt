@@ -3,29 +3,28 @@ use mathlib.Core.Path.{_≡_, refl, ap, sym, _∙_, subst}
 use mathlib.Core.Logic.{_⊎_, inl, inr}
 use mathlib.Core.Bool.{Bool, true, false}
 use mathlib.Core.List.{List}
-use Prim.Native.Nat.{ℕ, _*_, _/_, _%_, _<_}
-use native.Mathlib.Decide.{ℕ-discrete}
+use Prim.Native.Nat.{ℕ, _*_, _<_}
 use native.Mathlib.Omega.{arith}
-use lib.ListN.{length, getD, replicate}
-use lib.Seq.{ext-getD}
+use lib.ListN.{length, replicate}
 use Rattle.refusal.specs.Numbers.{numberOf}
 use Rattle.refusal.specs.declared.Refusal.{Refusal}
 use Rattle.refusal.proofs.NumberLaws.{number-pos, number-unique}
-use Rattle.grid.specs.Cells.{cell, someEmpty}
+use Rattle.grid.specs.Cells.{cell, someEmpty, EmptyCell}
 use Rattle.grid.specs.Accepted.{Accepted, gridRefusal}
-use Rattle.grid.proofs.CellLaws.{cell-cleared, found}
+use Rattle.grid.proofs.CellLaws.{cell-cleared, cleared-empty}
 use Rattle.grid.proofs.AcceptedLaws.{accepted-grid}
 use Rattle.theory.specs.Allen.{allen}
 use Rattle.theory.specs.Closing.{Closing}
 use Rattle.theory.specs.Sweeps.{DeadEnd}
-use Rattle.theory.proofs.ClosingLaws.{closing-same, closing-unique}
+use Rattle.theory.proofs.ClosingLaws.{closing-same}
+use Rattle.theory.proofs.EndLaws.{Kind, contradicts, Largest, EndsAs, refusing, full, emptied, ends-unique}
 use Rattle.theory.proofs.KeepLaws.{Good}
 use Rattle.theory.proofs.PlainLaws.{dead-closing, cuts-good, still-closed}
 use Rattle.theory.proofs.FairLaws.{fair-good}
 use Rattle.theory.proofs.QuickRight.{empty-right}
 use Rattle.theory.proofs.GivenLaws.{fine, fair, hole}
 use Rattle.theory.proofs.AllenLaws.{lawful, eq-lawful}
-use Rattle.plain.specs.Answers.{EmptyCell, PlainCloses}
+use Rattle.plain.specs.Answers.{PlainCloses}
 use Rattle.plain.specs.Routes.{Sweeps}
 use Rattle.plain.specs.declared.PlainAnswer.{PlainAnswer}
 use Rattle.plain.specs.declared.PlainAnswer.the-variants.{Closed, Contradiction, Refused}
@@ -46,9 +45,9 @@ module _ (n : ℕ) (g : List ℕ) (a : Accepted n g) where
       go true e = none-at-start e
       go false e = dead-closing allen lawful n g (good e) d
 
-  some-event : (someEmpty g ≡ true) ⊎ DeadEnd allen n g → (i : ℕ) × (i < n)
-  some-event (inl e) = let h = hole n g a e in (h .0, h .2)
-  some-event (inr d) = (d .a, d .route .ha)
+  some-event : (someEmpty g ≡ true) ⊎ DeadEnd allen n g → 0 < n
+  some-event (inl e) = let h = hole n g a e in omega (arith, h .2)
+  some-event (inr d) = omega (arith, d .route .ha)
 
   module _ (g' : List ℕ) (e : gridRefusal n g ≡ 0) (l : length g' ≡ length g) where
     cleared : ((someEmpty g ≡ true) ⊎ DeadEnd allen n g) × (g' ≡ replicate (n * n) 0) → PlainCloses n g Contradiction g'
@@ -63,8 +62,7 @@ module _ (n : ℕ) (g : List ℕ) (a : Accepted n g) where
               (none-left (w .0)));
           closed = λ q. let z : _≡_ {A = ℕ} 0 1 = cc in absurd (omega arith);
           contradiction = λ q.
-              let i = some-event (w .0) in
-              ((i .0, i .0, i .1, i .1, ap (λ (x : List ℕ). cell n x (i .0) (i .0)) (w .1) ∙ cell-cleared n (n * n) (i .0) (i .0)), w .1);
+              (subst (EmptyCell n) (sym (w .1)) (cleared-empty n (some-event (w .0))), w .1);
         }
 
     swept : Sweeps n g Closed g' → PlainCloses n g Closed g'
@@ -95,38 +93,39 @@ refuses n g r e =
       contradiction = λ q. let z : _≡_ {A = ℕ} 0 1 = cc in absurd (omega arith);
     }
 
+-- ---- the kind of the answer and the cells are those of the given grid's closing
+
+abbrev pub plainKind : PlainAnswer → Kind
+plainKind Closed = Kind.closes
+plainKind Contradiction = contradicts
+plainKind (Refused r) = Kind.refuses (numberOf r)
+
+module _ (n : ℕ) (g k : List ℕ) where
+  largest : (s : PlainAnswer) → gridRefusal n g ≡ 0 → PlainCloses n g s k → Largest n g k
+  largest s e p = record { none = e; long = p .long ∙ accepted-grid n g e .long; closing = p .largest e }
+
+  pub plain-ends : (s : PlainAnswer) → PlainCloses n g s k → EndsAs n g (plainKind s) k
+  plain-ends Closed p = full (largest Closed (sym (p .refusal)) p) (p .closed refl)
+  plain-ends Contradiction p = emptied (largest Contradiction (sym (p .refusal)) p) (p .contradiction refl .0)
+  plain-ends (Refused r) p =
+      let due : 0 < gridRefusal n g = omega (arith, p .refusal, number-pos r) in
+      subst (λ (x : ℕ). EndsAs n g (Kind.refuses x) k) (sym (p .refusal))
+      (subst (EndsAs n g (Kind.refuses (gridRefusal n g))) (sym (p .kept due)) (refusing due))
+
 -- ---- any two outcomes that the statement allows are equal
 
-module _ (n : ℕ) (g : List ℕ) (r s : PlainAnswer) (h k : List ℕ) (p : PlainCloses n g r h) (q : PlainCloses n g s k) where
-  same-cells : gridRefusal n g ≡ 0 → h ≡ k
-  unfolding cell
-  same-cells e =
-      let a = accepted-grid n g e in
-      ext-getD 0 h k (p .long ∙ sym (q .long))
-      (λ x l. let f = found n x (omega (arith, l, p .long, a .long)) in
-      ap (λ (y : ℕ). getD h y 0) (sym (f .back))
-      ∙ closing-unique allen lawful n (cell n g) (cell n h) (cell n k) (p .largest e) (q .largest e) (x / n) (x % n) (f .row) (f .column)
-      ∙ ap (λ (y : ℕ). getD k y 0) (f .back))
-
-  pub plain-cells : h ≡ k
-  plain-cells = go (ℕ-discrete (gridRefusal n g) 0)
-    where
-      go : Dec (gridRefusal n g ≡ 0) → h ≡ k
-      go (yes e) = same-cells e
-      go (no ne) = p .kept (omega arith) ∙ sym (q .kept (omega arith))
-
-pub plain-answers : (n : ℕ) (g : List ℕ) (r s : PlainAnswer) (h k : List ℕ) → PlainCloses n g r h → PlainCloses n g s k → r ≡ s
-plain-answers n g Closed Closed h k p q = refl
-plain-answers n g Closed Contradiction h k p q =
-    absurd (p .closed refl (subst (EmptyCell n) (sym (plain-cells n g Closed Contradiction h k p q)) (q .contradiction refl .0)))
-plain-answers n g Closed (Refused t) h k p q = let z = number-pos t in absurd (omega (arith, p .refusal, q .refusal))
-plain-answers n g Contradiction Closed h k p q =
-    absurd (q .closed refl (subst (EmptyCell n) (plain-cells n g Contradiction Closed h k p q) (p .contradiction refl .0)))
-plain-answers n g Contradiction Contradiction h k p q = refl
-plain-answers n g Contradiction (Refused t) h k p q = let z = number-pos t in absurd (omega (arith, p .refusal, q .refusal))
-plain-answers n g (Refused r) Closed h k p q = let z = number-pos r in absurd (omega (arith, p .refusal, q .refusal))
-plain-answers n g (Refused r) Contradiction h k p q = let z = number-pos r in absurd (omega (arith, p .refusal, q .refusal))
-plain-answers n g (Refused r) (Refused s) h k p q = ap Refused (number-unique r s (p .refusal ∙ sym (q .refusal)))
+kind-unique : (r s : PlainAnswer) → plainKind r ≡ plainKind s → r ≡ s
+kind-unique Closed Closed e = refl
+kind-unique Contradiction Contradiction e = refl
+kind-unique (Refused r) (Refused s) e = ap Refused (number-unique r s (cc))
+kind-unique Closed Contradiction e = let z : _≡_ {A = ℕ} 0 1 = cc in absurd (omega arith)
+kind-unique Closed (Refused s) e = let z : _≡_ {A = ℕ} 0 1 = cc in absurd (omega arith)
+kind-unique Contradiction Closed e = let z : _≡_ {A = ℕ} 0 1 = cc in absurd (omega arith)
+kind-unique Contradiction (Refused s) e = let z : _≡_ {A = ℕ} 0 1 = cc in absurd (omega arith)
+kind-unique (Refused r) Closed e = let z : _≡_ {A = ℕ} 0 1 = cc in absurd (omega arith)
+kind-unique (Refused r) Contradiction e = let z : _≡_ {A = ℕ} 0 1 = cc in absurd (omega arith)
 
 pub plain-unique : (n : ℕ) (g : List ℕ) (r s : PlainAnswer) (h k : List ℕ) → PlainCloses n g r h → PlainCloses n g s k → (r ≡ s) × (h ≡ k)
-plain-unique n g r s h k p q = (plain-answers n g r s h k p q, plain-cells n g r s h k p q)
+plain-unique n g r s h k p q =
+    let u = ends-unique n g (plain-ends n g h r p) (plain-ends n g k s q) in
+    (kind-unique r s (u .0), u .1)

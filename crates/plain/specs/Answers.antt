@@ -4,7 +4,7 @@ use mathlib.Core.List.{List}
 use Prim.Native.Nat.{ℕ, _*_, _<_}
 use lib.ListN.{length, replicate}
 use Rattle.refusal.specs.Numbers.{numberOf}
-use Rattle.grid.specs.Cells.{cell}
+use Rattle.grid.specs.Cells.{cell, EmptyCell}
 use Rattle.grid.specs.Accepted.{gridRefusal}
 use Rattle.theory.specs.Allen.{allen}
 use Rattle.theory.specs.Closing.{Closing}
@@ -16,9 +16,6 @@ abbrev pub refusalOf : PlainAnswer → ℕ
 refusalOf Closed = 0
 refusalOf Contradiction = 0
 refusalOf (Refused r) = numberOf r
-
-abbrev pub EmptyCell : ℕ → List ℕ → Type 0
-EmptyCell n g = (i : ℕ) × (j : ℕ) × (i < n) × (j < n) × (cell n g i j ≡ 0)
 
 -- plain closing of the lent cells g answers r and leaves the cells g'
 pub record PlainCloses (n : ℕ) (g : List ℕ) (r : PlainAnswer) (g' : List ℕ) : Type 0 where

@@ -6,7 +6,7 @@ use Prim.Native.Nat.{ℕ, _*_}
 use lib.Dec.{eqb}
 use lib.ListN.{replicate}
 use Rattle.refusal.specs.Numbers.{numberOf}
-use Rattle.grid.specs.Cells.{cell, someEmpty}
+use Rattle.grid.specs.Cells.{cell, someEmpty, EmptyCell}
 use Rattle.grid.specs.Accepted.{gridRefusal}
 use Rattle.theory.specs.Allen.{allen}
 use Rattle.theory.specs.Closing.{Closing}
@@ -56,15 +56,20 @@ abbrev pub orKept : Bool → List ℕ → List ℕ → List ℕ
 orKept true new old = new
 orKept false new old = old
 
--- neither paused nor refused
-abbrev pub Ends : QuickAnswer → Type 0
-Ends (Closed t) = Unit {0}
-Ends (Contradiction t) = Unit {0}
-Ends (Paused t) = ⊥
-Ends (Refused r) = ⊥
+-- closed: the largest closed grid inside g, and no cell of it is empty
+pub record ClosedInside (n : ℕ) (g g' : List ℕ) : Type 0 where
+  pub largest : Closing allen n (cell n g) (cell n g')
+  pub full : EmptyCell n g' → ⊥
+
+-- contradiction: the largest closed grid inside g holds an empty cell, and so it is zero in all cells
+pub record EmptyInside (n : ℕ) (g g' : List ℕ) : Type 0 where
+  pub largest : Closing allen n (cell n g) (cell n g')
+  pub empty : EmptyCell n g'
+  pub zeros : g' ≡ replicate (n * n) 0
 
 -- quick closing of the lent cells g answers r and leaves the cells g'
 pub record QuickCloses (n limit : ℕ) (g : List ℕ) (r : QuickAnswer) (g' : List ℕ) : Type 0 where
   pub answer : saidOf r ≡ orRefused (eqb (gridRefusal n g) 0) (saidBy (quickRule n limit g)) (gridRefusal n g)
   pub cells : g' ≡ orKept (eqb (gridRefusal n g) 0) (cellsBy n (quickRule n limit g)) g
-  pub largest : Ends r → Closing allen n (cell n g) (cell n g')
+  pub closed : (t : ℕ) → r ≡ Closed t → ClosedInside n g g'
+  pub contradiction : (t : ℕ) → r ≡ Contradiction t → EmptyInside n g g'

@@ -17,7 +17,7 @@ pub enum NextLine {
 }
 
 // The line that begins at a place of a sheet.
-pub fn line_at(sheet: &[u8], at: usize) -> NextLine
+fn line_at(sheet: &[u8], at: usize) -> NextLine
     ensures { λ r. ⌜ r ≡ lineAt (now (sheet .entry)) at ⌝ }
 {
     if sheet.len() <= at {

@@ -147,7 +147,7 @@ fn attempt_in(
 }
 
 // Decides the cells of a closed grid from a stand on. Past the last, the placing is written to the room.
-pub fn look(
+fn look(
     ring: &mut [u16; 1024],
     flag: &mut [u8; 1024],
     n: usize,

@@ -50,7 +50,7 @@ pub fn join(ring: &mut [u16; 1024], flag: &mut [u8; 1024], n: usize, l: Line, p:
 }
 
 // The number of a pair, smaller event first.
-pub fn pair_of(a: usize, b: usize) -> usize
+fn pair_of(a: usize, b: usize) -> usize
     requires { ⌜ (a < 32) × (b < 32) ⌝ }
     ensures { λ r. ⌜ r ≡ pairOf a b ⌝ }
 {

@@ -43,7 +43,7 @@ pub fn two_parts(s: &[u8], c: u8) -> Two
 }
 
 // The two texts are the same bytes.
-pub fn same_bytes(a: &[u8], b: &[u8]) -> bool
+fn same_bytes(a: &[u8], b: &[u8]) -> bool
     ensures { λ r. ⌜ r ≡ same (now (a .entry)) (now (b .entry)) ⌝ }
 {
     if a.len() != b.len() {

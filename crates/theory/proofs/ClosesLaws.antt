@@ -1,7 +1,7 @@
 -- A run of takes that does not pause says what closing leaves: from all pairs, and from the one pair that was cut. Assumes nothing.
 use mathlib.Core.Path.{_≡_, refl, sym, _∙_, ap, subst}
 use mathlib.Core.List.{List, [], _∷_}
-use Prim.Native.Nat.{ℕ, zero, suc, _*_, _<_}
+use Prim.Native.Nat.{ℕ, _*_, _<_}
 use native.Mathlib.Decide.{ℕ-discrete}
 use native.Mathlib.Omega.{arith}
 use lib.ListN.{length}
@@ -10,7 +10,7 @@ use Rattle.grid.proofs.CellLaws.{putBoth-length}
 use Rattle.theory.specs.Calculus.{Calculus, Sub}
 use Rattle.theory.specs.Closing.{Closed}
 use Rattle.theory.specs.Fair.{Fair}
-use Rattle.theory.specs.Line.{pairOf, allPairs, rowsTo}
+use Rattle.theory.specs.Line.{pairOf, allPairs}
 use Rattle.theory.specs.Quick.{Ended, contradiction, closed, paused, run}
 use Rattle.theory.specs.Search.{closesTo}
 use Rattle.theory.specs.Tried.{enough, triedBy}
@@ -18,18 +18,10 @@ use Rattle.theory.proofs.Lawful.{Lawful, OfSets, EqLawful}
 use Rattle.theory.proofs.LargestLaws.{closes-closed, closes-emptied, closes-same}
 use Rattle.theory.proofs.SettledLaws.{Resting, Right, LeavesGood, run-ok, run-good}
 use Rattle.theory.proofs.TakeLaws.{Sized, Bounded, LeavesLong, run-long}
+use Rattle.theory.proofs.QuickLaws.{run-none}
+use Rattle.theory.proofs.StartLaws.{pairs-none}
 use Rattle.theory.proofs.QuickRight.{start, takes-bound, takes-always}
 use Rattle.theory.proofs.TryLaws.{cut-topped, resting, try-ends}
-
--- no events, no pairs
-no-pairs : (n : ℕ) → n ≡ 0 → allPairs n ≡ []
-unfolding allPairs rowsTo
-no-pairs n e = rw e
-
-run-none : (A : Calculus) (n f t : ℕ) (g : List ℕ) → run A n f t g [] ≡ closed t g
-unfolding run
-run-none A n zero t g = refl
-run-none A n (suc f) t g = refl
 
 module _ (A : Calculus) (L : Lawful A) (E : EqLawful A) (S : OfSets A) (n : ℕ) where
   module _ (g : List ℕ) (small : (i j : ℕ) → i < n → j < n → cell n g i j < 8192) (some-event : 0 < n) where
@@ -64,7 +56,7 @@ module _ (A : Calculus) (L : Lawful A) (E : EqLawful A) (S : OfSets A) (n : ℕ)
           go (no ne) = closes-run g (fair-small g F) (omega arith) (allPairs n) long (omega (arith, F .fine .few)) (start A L n g F) never-paused
           go (yes e) =
               closes-same A L S n g (fair-small g F) long (F .full) (λ i j k hi hj hk. absurd (omega arith))
-              ∙ sym (ap triedBy (ap (run A n enough 0 g) (no-pairs n e) ∙ run-none A n enough 0 g))
+              ∙ sym (ap triedBy (ap (run A n enough 0 g) (pairs-none n e) ∙ run-none A n enough 0 g))
 
     -- ---- from the one pair that was cut in a closed grid
 

@@ -2,13 +2,13 @@
 use mathlib.Core.Path.{_≡_, ap, _∙_}
 use mathlib.Core.Bool.{true, false}
 use mathlib.Core.List.{List}
-use Prim.Native.Nat.{ℕ, _+_, _*_, _/_, _%_, _<_}
+use Prim.Native.Nat.{ℕ, _+_, _*_, _/_, _%_}
 use native.Mathlib.Omega.{arith}
 use borrow.Author.Tests.{eqb-true, eqb-false}
 use lib.Dec.{eqb}
 use lib.ListN.{length, getD}
 use Rattle.relation.proofs.Tested.{T-of, of-T, some-at}
-use Rattle.grid.specs.Cells.{cell, someEmpty}
+use Rattle.grid.specs.Cells.{cell, someEmpty, EmptyCell}
 use Rattle.grid.specs.Accepted.{Accepted}
 use Rattle.grid.proofs.CellLaws.{place, found}
 use Rattle.grid.proofs.AcceptedLaws.{none-passes}
@@ -39,7 +39,7 @@ module _ (n : ℕ) (g : List ℕ) (a : Accepted n g) where
   fair e = record { fine = fine n g a; full = full e }
 
   -- some cell is empty
-  pub hole : someEmpty g ≡ true → (i : ℕ) × (j : ℕ) × (i < n) × (j < n) × (cell n g i j ≡ 0)
+  pub hole : someEmpty g ≡ true → EmptyCell n g
   unfolding cell
   hole e =
       let w = some-at (length g) (λ p. eqb (getD g p 0) 0) (T-of e) in

@@ -15,6 +15,7 @@ pub mod CutsLaws
 pub mod MeetLaws
 pub mod AllenLaws
 pub mod GivenLaws
+pub mod EndLaws
 pub mod SearchLaws
 pub mod FirstLaws
 pub mod TryLaws

@@ -68,6 +68,11 @@ pub pairs-all : (n : ℕ) → n ≤ 32 → Pairs n (allPairs n)
 unfolding allPairs
 pairs-all n few p h = let r = rows-in n n p few (omega arith) h in (r .1, r .2)
 
+-- no events, no pairs
+pub pairs-none : (n : ℕ) → n ≡ 0 → allPairs n ≡ []
+unfolding allPairs rowsTo
+pairs-none n e = rw e
+
 pub waits-all : (n a b : ℕ) → n ≤ 32 → a < n → b < n → (a ≡ b → ⊥) → Waits (allPairs n) a b
 unfolding allPairs
 waits-all n a b few ha hb ne =
