@@ -7,3 +7,4 @@ pub mod SheetLaws
 pub mod NameLaws
 pub mod SheetRight
 pub mod Examples
+pub mod Edges
