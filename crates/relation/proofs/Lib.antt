@@ -9,4 +9,5 @@ pub mod ExchangeLaws
 pub mod TableLaws
 pub mod Laws
 pub mod AnswerLaws
+pub mod Edges
 mod PackedLaws

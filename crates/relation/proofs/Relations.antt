@@ -3,11 +3,12 @@ use mathlib.Core.Path.{_≡_, refl, sym, ap, ap₂, _∙_, subst}
 use mathlib.Core.Logic.{_↔_}
 use mathlib.Core.Bool.{Bool}
 use Prim.Native.Nat.{ℕ, zero, suc, _<_}
-use lib.Dec.{lit<}
+use lib.Dec.{T, lit<}
 use lib.IntN.{ℤ}
 use lib.Signed.{ltZ, _<ℤ_}
 use Rattle.relation.specs.Comparing.{Order, less, same, more, order, relFrom, relBy, relOf}
 use Rattle.relation.specs.Meaning.{Event, holds, exchanged}
+use Rattle.relation.specs.Sets.{member}
 use Rattle.relation.proofs.Order.{Means, cmp, cmp-means, cmp-is, <ℤ-trans}
 
 -- a statement of each number, by the thirteen and the rest
@@ -127,6 +128,14 @@ module _ (X Y : Event) where
 -- exactly one of the thirteen holds
 pub exactly-one : (t : ℕ) (X Y : Event) → holds t X Y ↔ (relOf X Y ≡ t)
 exactly-one t X Y = (holds-is′ X Y t, λ e. subst (λ (r : ℕ). holds r X Y) e (holds-found X Y))
+
+-- some relation of a set holds exactly if the one that is found is in the set
+module _ (a : ℕ) (X Y : Event) where
+  pub one-within : (r : ℕ) × (r < 13) × T (member r a) × holds r X Y → T (member (relOf X Y) a)
+  one-within w = subst (λ (r : ℕ). T (member r a)) (sym (exactly-one (w .0) X Y .0 (w .3))) (w .2)
+
+  pub within-one : T (member (relOf X Y) a) → (r : ℕ) × (r < 13) × T (member r a) × holds r X Y
+  within-one w = (relOf X Y, relOf-lt X Y, w, holds-found X Y)
 
 -- an event to itself is eq
 pub relOf-self : (X : Event) → relOf X X ≡ 12

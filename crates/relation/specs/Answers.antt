@@ -16,13 +16,17 @@ abbrev pub saidOf : SetAnswer → Said
 saidOf (Set a) = set a
 saidOf (Refused r) = refused (numberOf r)
 
+-- a set is one of the numbers 0 to 8191
+abbrev pub howManySets : ℕ
+howManySets = 8192
+
 -- refusal 3 is given exactly where a set handed in is above 8191
 abbrev pub orThree : Bool → ℕ → Said
 orThree true a = set a
 orThree false a = refused 3
 
 abbrev pub converseSaid : ℕ → Said
-converseSaid a = orThree (ltb a 8192) (converse a)
+converseSaid a = orThree (ltb a howManySets) (converse a)
 
 abbrev pub composeSaid : ℕ → ℕ → Said
-composeSaid a b = orThree (ltb a 8192 && ltb b 8192) (compose a b)
+composeSaid a b = orThree (ltb a howManySets && ltb b howManySets) (compose a b)

@@ -3,6 +3,7 @@ use mathlib.Core.Path.{_≡_}
 use mathlib.Core.Bool.{Bool, true, false}
 use mathlib.Core.List.{List, [], _∷_}
 use Prim.Native.Nat.{ℕ, _+_, _-_, _%_}
+use Prim.Native.String.{String}
 use lib.Dec.{eqb}
 use lib.ListN.{getD}
 use lib.IntN.{ℤ}
@@ -39,19 +40,31 @@ equals X Y = (X .start ≡ Y .start) × (X .end ≡ Y .end)
 abbrev pub back : (Event → Event → Type 0) → Event → Event → Type 0
 back R X Y = R Y X
 
--- by number: b, bi, m, mi, o, oi, s, si, d, di, f, fi, eq
-abbrev pub relations : List (Event → Event → Type 0)
+-- a relation has a name, and a meaning of X to Y
+pub record Relation : Type 1 where
+  pub name : String
+  pub means : Event → Event → Type 0
+
+abbrev pub named : String → (Event → Event → Type 0) → Relation
+named name means = record { name = name; means = means }
+
+-- by number, from 0
+abbrev pub relations : List Relation
 relations =
-    before ∷ back before ∷ meets ∷ back meets ∷ overlaps ∷ back overlaps ∷ starts ∷ back starts ∷ during ∷ back during
-    ∷ finishes ∷ back finishes ∷ equals ∷ []
+    named "b" before ∷ named "bi" (back before) ∷ named "m" meets ∷ named "mi" (back meets)
+    ∷ named "o" overlaps ∷ named "oi" (back overlaps) ∷ named "s" starts ∷ named "si" (back starts)
+    ∷ named "d" during ∷ named "di" (back during) ∷ named "f" finishes ∷ named "fi" (back finishes) ∷ named "eq" equals ∷ []
 
 -- no other number is a relation
-abbrev pub never : Event → Event → Type 0
-never X Y = ⊥
+abbrev pub never : Relation
+never = named "" (λ X Y. ⊥)
+
+abbrev pub relation : ℕ → Relation
+relation r = getD relations r never
 
 -- relation r holds of X to Y
 abbrev pub holds : ℕ → Event → Event → Type 0
-holds r = getD relations r never
+holds r = relation r .means
 
 abbrev pub pickℕ : Bool → ℕ → ℕ → ℕ
 pickℕ true a b = a

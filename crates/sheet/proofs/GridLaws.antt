@@ -6,7 +6,7 @@ use Prim.Native.Nat.{ℕ, _+_, _*_, _≤_, _<_}
 use native.Mathlib.Omega.{arith}
 use native.Mathlib.Decide.{ℕ-discrete}
 use lib.Arith.{digits-lt, digits-div, digits-mod}
-use lib.Bits.{bitAnd, and-le-l}
+use lib.Bits.{and-le-l}
 use lib.Dec.{eqb}
 use lib.ListN.{length, take}
 use lib.Seq.{getD-take, take-set-lt}
@@ -17,7 +17,7 @@ use Rattle.grid.specs.Cells.{cell, put, putBoth}
 use Rattle.grid.specs.Accepted.{Accepted}
 use Rattle.grid.proofs.CellLaws.{upTo-length, upTo-at, putBoth-length, cell-both-here, cell-both-mirror, cell-both-other}
 use Rattle.sheet.specs.Sheet.{Statement, mostEvents}
-use Rattle.sheet.specs.Grid.{startCell, startGrid, cutBy, cutAll, gridOf}
+use Rattle.sheet.specs.Grid.{startCell, startGrid, leftBy, cutBy, cutAll, gridOf}
 use Rattle.sheet.proofs.FitLaws.{Fits, AllFit}
 
 -- ---- the start
@@ -31,13 +31,13 @@ module _ (n i j : ℕ) (hi : i < n) (hj : j < n) where
   unfolding startGrid cell
   start-at = upTo-at (n * n) (startCell n) (i * n + j) (digits-lt hi hj) ∙ rw (digits-div i hj, digits-mod i hj)
 
-  start-same : i ≡ j → cell n (startGrid n) i j ≡ 4096
+  pub start-same : i ≡ j → cell n (startGrid n) i j ≡ 4096
   start-same e = start-at ∙ rw (eq-eqb i j e)
 
-  start-other : (i ≡ j → ⊥) → cell n (startGrid n) i j ≡ 8191
+  pub start-other : (i ≡ j → ⊥) → cell n (startGrid n) i j ≡ 8191
   start-other e = start-at ∙ rw (ne-eqb i j e)
 
-start-accepted : (n : ℕ) → n ≤ mostEvents → Accepted n (startGrid n)
+pub start-accepted : (n : ℕ) → n ≤ mostEvents → Accepted n (startGrid n)
 start-accepted n h =
     record {
       few = h;
@@ -56,12 +56,12 @@ start-accepted n h =
 -- ---- a cut
 
 -- a cell is the one that a statement names, its mirror, or another
-data Side (i j x y : ℕ) : Type 0 where
+pub data Side (i j x y : ℕ) : Type 0 where
   here : x ≡ i → y ≡ j → Side i j x y
   mirror : x ≡ j → y ≡ i → Side i j x y
   other : ((x ≡ i) × (y ≡ j) → ⊥) → ((x ≡ j) × (y ≡ i) → ⊥) → Side i j x y
 
-side : (i j x y : ℕ) → Side i j x y
+pub side : (i j x y : ℕ) → Side i j x y
 side i j x y = at (ℕ-discrete x i) (ℕ-discrete y j) (ℕ-discrete x j) (ℕ-discrete y i)
   where
     at : Dec (x ≡ i) → Dec (y ≡ j) → Dec (x ≡ j) → Dec (y ≡ i) → Side i j x y
@@ -76,24 +76,26 @@ side i j x y = at (ℕ-discrete x i) (ℕ-discrete y j) (ℕ-discrete x j) (ℕ-
 module _ (n : ℕ) (g : List ℕ) (a : Accepted n g) (t : Statement) (f : Fits n t) where
   -- the new set, and that the grid has the place
   abbrev left : ℕ
-  left = bitAnd (cell n g (t .one) (t .two)) (t .set)
+  left = leftBy n g t
 
   left-small : left ≤ 8191
-  left-small = omega (arith, and-le-l (cell n g (t .one) (t .two)) (t .set), a .small (t .one) (t .two) (f .one-in) (f .two-in))
+  left-small =
+      let h : left ≤ cell n g (t .one) (t .two) = and-le-l _ _ in
+      omega (arith, a .small (t .one) (t .two) (f .one-in) (f .two-in))
 
   has : n * n ≤ length g
   has = omega (arith, a .long)
 
-  cut-here : cell n (cutBy n g t) (t .one) (t .two) ≡ left
+  pub cut-here : cell n (cutBy n g t) (t .one) (t .two) ≡ leftBy n g t
   unfolding cutBy
   cut-here = cell-both-here converse n g has (t .one) (t .two) left (f .one-in) (f .two-in) (f .apart)
 
-  cut-mirror : cell n (cutBy n g t) (t .two) (t .one) ≡ converse left
+  pub cut-mirror : cell n (cutBy n g t) (t .two) (t .one) ≡ converse (leftBy n g t)
   unfolding cutBy
   cut-mirror = cell-both-mirror converse n g has (t .one) (t .two) left (f .one-in) (f .two-in)
 
   module _ (x y : ℕ) (hy : y < n) (p : (x ≡ t .one) × (y ≡ t .two) → ⊥) (q : (x ≡ t .two) × (y ≡ t .one) → ⊥) where
-    cut-other : cell n (cutBy n g t) x y ≡ cell n g x y
+    pub cut-other : cell n (cutBy n g t) x y ≡ cell n g x y
     unfolding cutBy
     cut-other = cell-both-other converse n g has (t .one) (t .two) left (f .one-in) (f .two-in) x y hy p q
 
@@ -114,7 +116,7 @@ module _ (n : ℕ) (g : List ℕ) (a : Accepted n g) (t : Statement) (f : Fits n
       by (other p q) =
           cut-other y x hx (λ w. q (w .1, w .0)) (λ w. p (w .1, w .0)) ∙ a .mirrored x y hx hy ∙ ap converse (sym (cut-other x y hy p q))
 
-  cut-accepted : Accepted n (cutBy n g t)
+  pub cut-accepted : Accepted n (cutBy n g t)
   unfolding cutBy
   cut-accepted =
       record {

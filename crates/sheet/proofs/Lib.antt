@@ -3,7 +3,9 @@ pub mod ContentsLaws
 pub mod BodyLaws
 pub mod FitLaws
 pub mod GridLaws
+pub mod MeantLaws
 pub mod SheetLaws
 pub mod NameLaws
 pub mod SheetRight
 pub mod Examples
+pub mod Edges

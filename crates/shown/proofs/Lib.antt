@@ -1,3 +1,4 @@
 pub mod Worked
 pub mod Examples
 pub mod ClosingsAgree
+pub mod Edges

@@ -12,7 +12,7 @@ use Rattle.relation.specs.Composition.{compose}
 use Rattle.relation.proofs.Tested.{T-of, of-T}
 use Rattle.relation.proofs.SetLaws.{member-none, member-mark, mark-lt, and-inside, inside-and, same-inside}
 use Rattle.relation.proofs.LowestLaws.{some-member}
-use Rattle.relation.proofs.Relations.{relOf-lt, exactly-one, holds-found}
+use Rattle.relation.proofs.Relations.{relOf-lt, one-within, within-one}
 use Rattle.relation.proofs.Laws.{compose-placed}
 use Rattle.grid.specs.Cells.{cell}
 use Rattle.grid.specs.Meets.{Meets}
@@ -61,12 +61,10 @@ abbrev pub Uses : ℕ → (ℕ → Event) → Cells → Type 0
 Uses n P G = (i j : ℕ) → i < n → j < n → T (member (relOf (P i) (P j)) (G i j))
 
 pub meets-uses : (n : ℕ) (g : List ℕ) (P : ℕ → Event) → Meets n g P → Uses n P (cell n g)
-meets-uses n g P m i j hi hj =
-    let w = m .each i j hi hj in
-    subst (λ (r : ℕ). T (member r (cell n g i j))) (sym (exactly-one (w .0) (P i) (P j) .0 (w .3))) (w .2)
+meets-uses n g P m i j hi hj = one-within (cell n g i j) (P i) (P j) (m .each i j hi hj)
 
 pub uses-meets : (n : ℕ) (g : List ℕ) (P : ℕ → Event) → Uses n P (cell n g) → Meets n g P
-uses-meets n g P u = record { each = λ i j hi hj. (relOf (P i) (P j), relOf-lt (P i) (P j), u i j hi hj, holds-found (P i) (P j)) }
+uses-meets n g P u = record { each = λ i j hi hj. within-one (cell n g i j) (P i) (P j) (u i j hi hj) }
 
 pub scenario-closed : (n : ℕ) (P : ℕ → Event) → Closed allen n (scenarioOf P)
 scenario-closed n P i j k hi hj hk =

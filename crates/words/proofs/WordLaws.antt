@@ -1,19 +1,26 @@
 -- Laws of the words: what the columns of the table hold; one word of a field. Assumes nothing.
-use Prim.Native.Nat.{ℕ, zero, suc, _+_, _-_, _≤_, _<_}
-use mathlib.Core.Path.{_≡_, refl, ap, _∙_}
+use Prim.Native.Nat.{ℕ, zero, suc, _+_, _-_, _^_, _≤_, _<_}
+use mathlib.Core.Path.{_≡_, refl, sym, ap, _∙_, subst}
+use mathlib.Core.Logic.{_↔_}
 use mathlib.Core.Bool.{Bool, true, false, cond, _&&_}
 use mathlib.Core.List.{List, [], _∷_, map}
 use native.Mathlib.Omega.{arith}
 use native.Mathlib.Numerals.{add-one}
 use lib.Bits.{bitOr}
-use lib.Dec.{T, eqb, leb, leb→le}
+use lib.Dec.{T, eqb, leb, leb→le, eqb→eq}
 use lib.ListN.{length, getD, take, drop, replicate, drop-of-length-le, List·getD-map, List·getD-append}
 use lib.Seq.{drop-cons}
 use borrow.Author.Tests.{eq-eqb, ne-eqb}
 use Rattle.text.specs.Text.{bytes, split, same}
 use Rattle.text.specs.Steps.{PartEnd}
 use Rattle.text.proofs.PartLaws.{after-next, after-last}
-use Rattle.words.specs.Words.{Word, words, meansIn, meaning, comma, joined, areWords, unionFrom, union}
+use Rattle.relation.specs.Meaning.{Event, relation, holds}
+use Rattle.relation.specs.Sets.{member}
+use Rattle.relation.specs.Comparing.{relOf}
+use Rattle.relation.proofs.Tested.{T-of, all, all-at}
+use Rattle.relation.proofs.SetLaws.{member-mark}
+use Rattle.relation.proofs.Relations.{relOf-lt, exactly-one}
+use Rattle.words.specs.Words.{Word, words, meansIn, meaning, comma, areWords, unionFrom}
 use Rattle.words.specs.Steps.{noWord, wordAt, filledUp, lettersColumn, lengthsColumn, setsColumn, unionWith}
 use Rattle.words.specs.declared.Union.the-variants.{Set, Not}
 
@@ -88,23 +95,22 @@ module _ (f : List ℕ) (a e u m : ℕ) (p : PartEnd comma f a e) (q : m ≡ mea
   pub union-done : (m ≡ 0 → ⊥) → length f ≤ e → unionWith u (split comma (drop a f)) ≡ Set (bitOr u m)
   union-done z h = rw (p .parts, after-last comma f e h, q, known z)
 
--- ---- what document 01 says of the further words
+-- ---- each name is tied to its relation
 
-any-is-all : meaning (bytes "any") ≡ union (joined (bytes "b,bi,m,mi,o,oi,s,si,d,di,f,fi,eq"))
+name-test : T (all 13 (λ r. eqb (meaning (bytes (relation r .name))) (2 ^ r)))
 unfolding meaning words
-any-is-all = refl
+name-test = tt
 
-meanwhile-is : meaning (bytes "meanwhile") ≡ union (joined (bytes "o,oi,s,si,d,di,f,fi,eq"))
-unfolding meaning words
-meanwhile-is = refl
-
-within-is : meaning (bytes "within") ≡ union (joined (bytes "d"))
-unfolding meaning words
-within-is = refl
-
-until-is : meaning (bytes "until") ≡ union (joined (bytes "m"))
-unfolding meaning words
-until-is = refl
+-- the set of relation r's name has the relation between X and Y exactly if relation r holds
+pub name-means : (r : ℕ) → r < 13 → (X Y : Event) → T (member (relOf X Y) (meaning (bytes (relation r .name)))) ↔ holds r X Y
+name-means r h X Y =
+    let mark : meaning (bytes (relation r .name)) ≡ 2 ^ r =
+    eqb→eq (meaning (bytes (relation r .name))) (2 ^ r) (all-at 13 (λ r. eqb (meaning (bytes (relation r .name))) (2 ^ r)) name-test r h) in
+    let has : member (relOf X Y) (meaning (bytes (relation r .name))) ≡ eqb (relOf X Y) r =
+    ap (member (relOf X Y)) mark ∙ member-mark r (relOf X Y) h (relOf-lt X Y) in (
+      λ w. exactly-one r X Y .1 (eqb→eq (relOf X Y) r (subst T has w)),
+      λ w. subst T (sym has) (T-of (eq-eqb (relOf X Y) r (exactly-one r X Y .0 w))),
+    )
 
 -- ---- what an answer of union_of says
 

@@ -1,11 +1,12 @@
 -- Document 01, "Sheets": the relation words and their sets. Assumes nothing.
 use mathlib.Core.Bool.{Bool, true, cond, not, _&&_}
-use mathlib.Core.List.{List, [], _∷_}
-use Prim.Native.Nat.{ℕ}
+use mathlib.Core.List.{List, [], _∷_, _++_, map}
+use Prim.Native.Nat.{ℕ, suc, _^_}
 use Prim.Native.String.{String}
 use lib.Dec.{eqb}
 use lib.Bits.{bitOr}
 use Rattle.text.specs.Text.{bytes, split, same}
+use Rattle.relation.specs.Meaning.{Relation, relations}
 
 -- how a word is written, and its set
 pub record Word : Type 0 where
@@ -15,17 +16,36 @@ pub record Word : Type 0 where
 abbrev pub word : String → ℕ → Word
 word name means = record { name = bytes name; means = means }
 
--- the thirteen names, each with its mark, and four further words
-unfoldable pub words : List Word
-words =
-    word "b" 1 ∷ word "bi" 2 ∷ word "m" 4 ∷ word "mi" 8 ∷ word "o" 16 ∷ word "oi" 32 ∷ word "s" 64 ∷ word "si" 128
-    ∷ word "d" 256 ∷ word "di" 512 ∷ word "f" 1024 ∷ word "fi" 2048 ∷ word "eq" 4096
-    ∷ word "any" 8191 ∷ word "meanwhile" 8176 ∷ word "within" 256 ∷ word "until" 4 ∷ []
-
 -- the set of the word that is written so, or 0, which no word means
 abbrev pub meansIn : List Word → List ℕ → ℕ
 meansIn [] w = 0
 meansIn (x ∷ xs) w = cond (same (x .name) w) (x .means) (meansIn xs w)
+
+-- the names of a list of relations, each with its mark: the first is relation r
+abbrev pub namesFrom : ℕ → List Relation → List Word
+namesFrom r [] = []
+namesFrom r (x ∷ xs) = word (x .name) (2 ^ r) ∷ namesFrom (suc r) xs
+
+-- the thirteen names
+abbrev pub names : List Word
+names = namesFrom 0 relations
+
+-- the set of the relations that are named so
+abbrev pub setNamed : List String → ℕ
+setNamed [] = 0
+setNamed (x ∷ xs) = bitOr (meansIn names (bytes x)) (setNamed xs)
+
+-- four further words
+abbrev pub further : List Word
+further =
+    word "any" (setNamed (map (λ r. r .name) relations))
+    ∷ word "meanwhile" (setNamed ("o" ∷ "oi" ∷ "s" ∷ "si" ∷ "d" ∷ "di" ∷ "f" ∷ "fi" ∷ "eq" ∷ []))
+    ∷ word "within" (setNamed ("d" ∷ []))
+    ∷ word "until" (setNamed ("m" ∷ []))
+    ∷ []
+
+unfoldable pub words : List Word
+words = names ++ further
 
 unfoldable pub meaning : List ℕ → ℕ
 meaning w = meansIn words w

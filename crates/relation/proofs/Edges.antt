@@ -1,0 +1,18 @@
+-- Both sides of the limit on sets, computed from the definitions: the refusals' numbers, 0 for none. Assumes nothing.
+use mathlib.Core.Path.{_≡_, refl}
+use mathlib.Core.List.{List, [], _∷_}
+use Prim.Native.Nat.{ℕ}
+use Rattle.relation.specs.Answers.{Said, set, refused, converseSaid, composeSaid}
+
+abbrev refusalIn : Said → ℕ
+refusalIn (set a) = 0
+refusalIn (refused q) = q
+
+unfoldable pub edges : List ℕ
+edges =
+    refusalIn (converseSaid 8191) ∷ refusalIn (converseSaid 8192)
+    ∷ refusalIn (composeSaid 8191 8191) ∷ refusalIn (composeSaid 8191 8192) ∷ refusalIn (composeSaid 8192 8191) ∷ []
+
+pub edges-shown : edges ≡ 0 ∷ 3 ∷ 0 ∷ 3 ∷ 3 ∷ []
+unfolding edges
+edges-shown = refl
