@@ -1,5 +1,5 @@
 -- Where a cell stands, and what a put changes. Assumes nothing.
-use mathlib.Core.Path.{_≡_, refl, ap, sym, _∙_, subst}
+use mathlib.Core.Path.{_≡_, refl, ap, ap₂, sym, _∙_, subst}
 use mathlib.Core.List.{List, [], _∷_, _++_}
 use Prim.Native.Nat.{ℕ, zero, suc, _+_, _*_, _/_, _%_, _≤_, _<_}
 use native.Mathlib.Nat.{mul-le-mul, zero-lt-suc, mod-lt, div-add-mod', div-lt-iff-lt-mul}
@@ -46,6 +46,11 @@ put-length n g i j a = length-set g (i * n + j) a
 pub putBoth-length : (turn : ℕ → ℕ) (n : ℕ) (g : List ℕ) (i j a : ℕ) → length (putBoth turn n g i j a) ≡ length g
 unfolding putBoth
 putBoth-length turn n g i j a = put-length n (put n g i j a) j i (turn a) ∙ put-length n g i j a
+
+-- a put, and then what it is turned round in the mirrored cell
+pub both-put : (turn : ℕ → ℕ) (n i j a x : ℕ) (g g₁ g₂ : List ℕ) → g₁ ≡ put n g i j a → x ≡ turn a → g₂ ≡ put n g₁ j i x → g₂ ≡ putBoth turn n g i j a
+unfolding putBoth
+both-put turn n i j a x g g₁ g₂ p q r = r ∙ ap₂ (λ (h : List ℕ) (y : ℕ). put n h j i y) p q
 
 -- what stands there already is put: nothing changes
 pub putBoth-same : (turn : ℕ → ℕ) (n : ℕ) (g : List ℕ) (i j a : ℕ) → a ≡ cell n g i j → turn a ≡ cell n g j i → putBoth turn n g i j a ≡ g

@@ -44,7 +44,8 @@ loop-again : tie.Need-loop-again Inv-loop μ-loop
 loop-again c =
     let g = c .before .before .before .before .before .args .g .now in
     let L = c .before .before .before .loop in
-    (search needs, c .either .ensures ∙ ap (λ (x : Bool). x || large g (L .p)) (L .inv .1) ∙ some-next (L .p) (large g))
+    let e : c .either .result ≡ (L .found || large g (L .p)) = c .either .ensures in
+    (search needs, e ∙ ap (λ (x : Bool). x || large g (L .p)) (L .inv .1) ∙ some-next (L .p) (large g))
 
 returns : tie.Need-returns Inv-loop μ-loop
 returns c =

@@ -1,6 +1,6 @@
 -- The takes left, from the grid and list as they are, come to the whole run.
 use mathlib.Core.Path.{_≡_, ap, sym, _∙_}
-use Prim.Native.Nat.{_≤_, _-_}
+use Prim.Native.Nat.{_≤_, _<_, _-_}
 use lib.ListN.{length}
 use Rattle.theory.specs.Fair.{Fair}
 use Rattle.theory.specs.Allen.{allen}
@@ -23,7 +23,7 @@ abbrev μ-loop : tie.MeasureT-loop
 μ-loop g₀ ring₀ flag₀ n limit at₀ t₀ g ring flag at t = limit - t
 
 loop-holds : tie.Need-loop-holds Inv-loop μ-loop
-loop-holds c = (search needs, search needs, c .before .pre .1, rest-all _ _ _ _ _, c .before .pre .0)
+loop-holds c = (omega arith, search needs, c .before .pre .1, rest-all _ _ _ _ _, c .before .pre .0)
 
 clear-flags-requires : tie.Need-clear-flags-requires Inv-loop μ-loop
 clear-flags-requires c κs = c .before .before .before .before .loop .inv .2 .flag-len
@@ -34,14 +34,20 @@ same-length c = search needs
 returns : tie.Need-returns Inv-loop μ-loop
 returns c =
     let I = c .before .before in
-    let v = I .before .before .before .loop .inv in
-    (sym (stopped _ _ _ _ _ _ _ (I .before .if1 .taken) (I .if2 .taken)) ∙ v .3, cleared _ _ _ (v .2 .ring-len) (c .clear-flags .ensures))
+    let L = I .before .before .before .loop in
+    let limit = I .before .before .before .before .before .args .limit in
+    let e : L .t ≡ limit = omega (arith, L .inv .0, I .if2 .taken) in
+    (sym (stopped _ limit (L .t) _ _ _ _ (I .before .if1 .taken) e) ∙ L .inv .3, cleared _ _ _ (L .inv .2 .ring-len) (c .clear-flags .ensures))
 
 leave-requires : tie.Need-leave-requires Inv-loop μ-loop
 leave-requires c κs = (c .before .before .before .before .before .before .before .pre .0 .fine .few, c .before .before .before .if1 .taken, c .before .before .before .before .before .loop .inv .2)
 
 add-t : tie.Need-add-t Inv-loop μ-loop
-add-t c = search needs
+add-t c =
+    let I = c .before .before .before .before in
+    let L = I .before .before .before .loop in
+    let below : L .t < I .before .before .before .before .before .args .limit = omega (arith, L .inv .0, I .if2 .left) in
+    search needs
 
 take-pair-requires : tie.Need-take-pair-requires Inv-loop μ-loop
 take-pair-requires c κs =
