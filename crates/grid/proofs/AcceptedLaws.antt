@@ -1,21 +1,20 @@
 -- What each refusal of a grid says, and that a grid without one is accepted. Assumes nothing.
 use mathlib.Core.Path.{_≡_, refl, sym, ap, _∙_, subst}
-use mathlib.Core.Bool.{Bool, true, false, not}
+use mathlib.Core.Bool.{Bool, true, false, not, cond}
 use mathlib.Core.List.{List}
 use Prim.Native.Nat.{ℕ, _+_, _*_, _/_, _%_, _≤_, _<_}
-use native.Mathlib.Decide.{ℕ-discrete}
 use native.Mathlib.Omega.{arith}
-use borrow.Author.Tests.{le-ltb, eq-eqb, ne-eqb, ltb-false, eqb-true, not-false}
+use borrow.Author.Tests.{le-ltb, eq-eqb, ltb-false, eqb-true, not-false}
 use lib.Arith.{digits-lt}
 use lib.Dec.{T, eqb, ltb}
 use lib.ListN.{length, getD}
-use Rattle.relation.specs.Meaning.{pickℕ}
+use Rattle.refusal.proofs.AnsweredLaws.{first-next, first-none}
 use Rattle.relation.specs.Sets.{some}
 use Rattle.relation.specs.Composition.{converse}
 use Rattle.relation.proofs.Tested.{some-yes, some-no}
 use Rattle.grid.specs.Cells.{cell}
 use Rattle.grid.proofs.CellLaws.{found}
-use Rattle.grid.specs.Accepted.{Accepted, sizeRefusal, someLarge, someNotEq, rowUnlike, someUnlike, cellRefusal, firstOf, gridRefusal}
+use Rattle.grid.specs.Accepted.{Accepted, sizeRefusal, someLarge, someNotEq, rowUnlike, someUnlike, cellRefusal, gridRefusal}
 
 -- ---- refusals 1 and 2
 
@@ -28,7 +27,7 @@ pub sized : (n : ℕ) (g : List ℕ) → sizeRefusal n g ≡ 0 → Sized n g
 unfolding sizeRefusal
 sized n g e = go (ltb 32 n) (eqb (length g) (n * n)) refl refl e
   where
-    go : (p q : Bool) → ltb 32 n ≡ p → eqb (length g) (n * n) ≡ q → pickℕ p 1 (pickℕ q 0 2) ≡ 0 → Sized n g
+    go : (p q : Bool) → ltb 32 n ≡ p → eqb (length g) (n * n) ≡ q → _≡_ {A = ℕ} (cond p 1 (cond q 0 2)) 0 → Sized n g
     go true q a b z = absurd (omega arith)
     go false true a b z = record { few = ltb-false 32 n a; long = eqb-true (length g) (n * n) b }
     go false false a b z = absurd (omega arith)
@@ -66,7 +65,7 @@ module _ (n : ℕ) (g : List ℕ) where
   unfolding cellRefusal
   fine e = go (someLarge g) (someNotEq n g) (someUnlike n g) refl refl refl e
     where
-      go : (p q r : Bool) → someLarge g ≡ p → someNotEq n g ≡ q → someUnlike n g ≡ r → pickℕ p 3 (pickℕ q 4 (pickℕ r 5 0)) ≡ 0 → Fine
+      go : (p q r : Bool) → someLarge g ≡ p → someNotEq n g ≡ q → someUnlike n g ≡ r → _≡_ {A = ℕ} (cond p 3 (cond q 4 (cond r 5 0))) 0 → Fine
       go true q r a b d z = absurd (omega arith)
       go false true r a b d z = absurd (omega arith)
       go false false true a b d z = absurd (omega arith)
@@ -119,22 +118,6 @@ never-refused n g a = (
 
     large : (p : ℕ) → p < length g → ltb 8191 (getD g p 0) ≡ false
     large p h = le-ltb 8191 (getD g p 0) (at-place p (omega (arith, a .long)))
-
--- ---- the first of two refusals
-
-pub first-here : (a b : ℕ) → 0 < a → firstOf a b ≡ a
-first-here a b h = simp (ne-eqb a 0 (λ e. omega arith))
-
-pub first-next : (a b : ℕ) → a ≡ 0 → firstOf a b ≡ b
-first-next a b e = simp (eq-eqb a 0 e)
-
--- none of two refusals
-pub first-none : (a b : ℕ) → firstOf a b ≡ 0 → (a ≡ 0) × (b ≡ 0)
-first-none a b e = go (ℕ-discrete a 0)
-  where
-    go : Dec (a ≡ 0) → (a ≡ 0) × (b ≡ 0)
-    go (yes z) = (z, sym (first-next a b z) ∙ e)
-    go (no nz) = absurd (nz (sym (first-here a b (omega arith)) ∙ e))
 
 -- a grid that meets no refusal is accepted
 pub accepted-grid : (n : ℕ) (g : List ℕ) → gridRefusal n g ≡ 0 → Accepted n g

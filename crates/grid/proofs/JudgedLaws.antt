@@ -5,10 +5,11 @@ use native.Mathlib.Omega.{arith}
 use Rattle.refusal.specs.Numbers.{numberOf}
 use Rattle.refusal.specs.declared.Refusal.{Refusal}
 use Rattle.refusal.proofs.NumberLaws.{number-pos, number-unique}
-use Rattle.grid.specs.Accepted.{firstOf, judgedNumber}
+use Rattle.refusal.specs.Answered.{firstOf}
+use Rattle.grid.specs.Accepted.{judgedNumber}
 use Rattle.grid.specs.declared.Judged.{Judged}
 use Rattle.grid.specs.declared.Judged.the-variants.{Accepted, Refused}
-use Rattle.grid.proofs.AcceptedLaws.{first-here}
+use Rattle.refusal.proofs.AnsweredLaws.{first-here}
 
 pub judged-accepted : (a : ℕ) (j : Judged) → judgedNumber j ≡ a → j ≡ Accepted → a ≡ 0
 judged-accepted a j e f = sym e ∙ ap judgedNumber f

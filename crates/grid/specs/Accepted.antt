@@ -1,12 +1,12 @@
 -- Document 01, "Grids" and "What comes back": when a grid is accepted, and the refusals 1 to 5. Assumes nothing.
 use mathlib.Core.Path.{_≡_}
-use mathlib.Core.Bool.{Bool, not}
+use mathlib.Core.Bool.{Bool, not, cond}
 use mathlib.Core.List.{List}
 use Prim.Native.Nat.{ℕ, _*_, _≤_, _<_}
 use lib.Dec.{eqb, ltb}
 use lib.ListN.{length, getD}
+use Rattle.refusal.specs.Answered.{firstOf}
 use Rattle.refusal.specs.Numbers.{numberOf}
-use Rattle.relation.specs.Meaning.{pickℕ}
 use Rattle.relation.specs.Sets.{some}
 use Rattle.relation.specs.Composition.{converse}
 use Rattle.grid.specs.Cells.{cell}
@@ -22,7 +22,7 @@ pub record Accepted (n : ℕ) (g : List ℕ) : Type 0 where
 
 -- 1, then 2; 0 is none
 unfoldable pub sizeRefusal : ℕ → List ℕ → ℕ
-sizeRefusal n g = pickℕ (ltb 32 n) 1 (pickℕ (eqb (length g) (n * n)) 0 2)
+sizeRefusal n g = cond (ltb 32 n) 1 (cond (eqb (length g) (n * n)) 0 2)
 
 -- a cell above 8191; a diagonal cell that is not {eq}; a cell whose mirror is not its converse
 abbrev pub someLarge : List ℕ → Bool
@@ -45,12 +45,9 @@ someUnlike n g = some n (rowUnlike n g)
 
 -- 3, then 4, then 5, each looked for over everything before the next; 0 is none
 unfoldable pub cellRefusal : ℕ → List ℕ → ℕ
-cellRefusal n g = pickℕ (someLarge g) 3 (pickℕ (someNotEq n g) 4 (pickℕ (someUnlike n g) 5 0))
+cellRefusal n g = cond (someLarge g) 3 (cond (someNotEq n g) 4 (cond (someUnlike n g) 5 0))
 
 -- the first refusal of a grid; 0 is none
-abbrev pub firstOf : ℕ → ℕ → ℕ
-firstOf a b = pickℕ (eqb a 0) b a
-
 abbrev pub gridRefusal : ℕ → List ℕ → ℕ
 gridRefusal n g = firstOf (sizeRefusal n g) (cellRefusal n g)
 

@@ -1,23 +1,23 @@
 -- Document 01, "What comes back": the refusals 1 to 7 in their order, and what the checker says. Assumes nothing.
 use mathlib.Core.Path.{_≡_}
-use mathlib.Core.Bool.{Bool, not}
+use mathlib.Core.Bool.{Bool, not, cond}
 use mathlib.Core.List.{List}
 use Prim.Native.Nat.{ℕ, _+_, _*_}
 use lib.Dec.{eqb}
 use lib.ListN.{length}
 use lib.IntN.{ℤ}
 use lib.Signed.{ltZ}
+use Rattle.refusal.specs.Answered.{firstOf}
 use Rattle.refusal.specs.Numbers.{numberOf}
-use Rattle.relation.specs.Meaning.{pickℕ}
 use Rattle.relation.specs.Sets.{some}
-use Rattle.grid.specs.Accepted.{sizeRefusal, cellRefusal, firstOf}
+use Rattle.grid.specs.Accepted.{sizeRefusal, cellRefusal}
 use Rattle.placing.specs.Placing.{at, MeetsAt}
 use Rattle.placing.specs.declared.CheckAnswer.{CheckAnswer}
 use Rattle.placing.specs.declared.CheckAnswer.the-variants.{Meets as meets, Misses as misses, Refused as refused}
 
 -- 1, then 2, then 6 for a placing, or room for one, of m numbers; 0 is none
 unfoldable pub lengthRefusal : ℕ → List ℕ → ℕ → ℕ
-lengthRefusal n g m = firstOf (sizeRefusal n g) (pickℕ (eqb m (2 * n)) 0 6)
+lengthRefusal n g m = firstOf (sizeRefusal n g) (cond (eqb m (2 * n)) 0 6)
 
 -- the start of event i is not before its end, where v gives the ends: start then end, event by event
 abbrev pub late : (ℕ → ℤ) → ℕ → Bool
@@ -28,7 +28,7 @@ someLate n v = some n (late v)
 
 -- of a grid and a placing of the right lengths: 3, 4, 5, then 7; 0 is none
 unfoldable pub restRefusal : ℕ → List ℕ → List ℤ → ℕ
-restRefusal n g xs = firstOf (cellRefusal n g) (pickℕ (someLate n (at xs)) 7 0)
+restRefusal n g xs = firstOf (cellRefusal n g) (cond (someLate n (at xs)) 7 0)
 
 -- 1, 2, 6, then 3, 4, 5, then 7, each looked for over everything before the next; 0 is none
 unfoldable pub checkRefusal : ℕ → List ℕ → List ℤ → ℕ

@@ -8,6 +8,7 @@ use native.Mathlib.Omega.{arith}
 use borrow.Author.Tests.{eq-eqb, ne-eqb}
 use lib.Dec.{eqb}
 use lib.ListN.{length, replicate}
+use Rattle.refusal.specs.Answered.{Answered, refused, answers}
 use Rattle.refusal.specs.Numbers.{numberOf}
 use Rattle.refusal.specs.declared.Refusal.{Refusal}
 use Rattle.refusal.proofs.NumberLaws.{number-pos, number-unique}
@@ -22,7 +23,7 @@ use Rattle.theory.specs.Line.{allPairs}
 use Rattle.theory.specs.Quick.{Ended, contradiction, closed, paused, run}
 use Rattle.takes.specs.Steps.{ended}
 use Rattle.takes.specs.declared.End.{End}
-use Rattle.quick.specs.Answers.{Said, saidClosed, saidContradiction, saidPaused, saidRefused, saidOf, saidBy, cellsBy, quickRule, ClosedInside, EmptyInside, QuickCloses}
+use Rattle.quick.specs.Answers.{Said, saidClosed, saidContradiction, saidPaused, saidOf, saidBy, cellsBy, quickRule, ClosedInside, EmptyInside, QuickCloses}
 use Rattle.quick.specs.Steps.{Shows}
 use Rattle.quick.specs.declared.QuickAnswer.{QuickAnswer}
 use Rattle.quick.specs.declared.QuickAnswer.the-variants.{Closed, Contradiction, Paused, Refused}
@@ -36,13 +37,13 @@ rule-ran n limit g b s f q e r r' g' p k =
 
 module _ (n t : ℕ) (g : List ℕ) (e : Ended) where
   pub shows-contradiction : e ≡ contradiction t → g ≡ replicate (n * n) 0 → Shows n e (Contradiction t) g
-  shows-contradiction q h = record { answer = sym (ap saidBy q); cells = h ∙ sym (ap (cellsBy n) q) }
+  shows-contradiction q h = record { answer = sym (ap (λ (x : Ended). answers (saidBy x)) q); cells = h ∙ sym (ap (cellsBy n) q) }
 
   pub shows-closed : e ≡ closed t g → Shows n e (Closed t) g
-  shows-closed q = record { answer = sym (ap saidBy q); cells = sym (ap (cellsBy n) q) }
+  shows-closed q = record { answer = sym (ap (λ (x : Ended). answers (saidBy x)) q); cells = sym (ap (cellsBy n) q) }
 
   pub shows-paused : e ≡ paused t g → Shows n e (Paused t) g
-  shows-paused q = record { answer = sym (ap saidBy q); cells = sym (ap (cellsBy n) q) }
+  shows-paused q = record { answer = sym (ap (λ (x : Ended). answers (saidBy x)) q); cells = sym (ap (cellsBy n) q) }
 
 -- ---- the public statement
 
@@ -62,7 +63,7 @@ module _ (n limit : ℕ) (g : List ℕ) (a : Accepted n g) (r : QuickAnswer) (g'
   shown-closed : (t : ℕ) → r ≡ Closed t → ClosedInside n g g'
   shown-closed t q = go (quickRule n limit g) refl (sym (s .answer) ∙ ap saidOf q) (s .cells)
     where
-      go : (e : Ended) → quickRule n limit g ≡ e → saidBy e ≡ saidClosed t → g' ≡ cellsBy n e → ClosedInside n g g'
+      go : (e : Ended) → quickRule n limit g ≡ e → answers (saidBy e) ≡ answers (saidClosed t) → g' ≡ cellsBy n e → ClosedInside n g g'
       go (contradiction u) k z w = absurd (let y : _≡_ {A = ℕ} 0 1 = cc in omega arith)
       go (closed u h) k z w = subst (ClosedInside n g) (sym w) (rule-closed n g a limit u h k)
       go (paused u h) k z w = absurd (let y : _≡_ {A = ℕ} 0 1 = cc in omega arith)
@@ -70,7 +71,7 @@ module _ (n limit : ℕ) (g : List ℕ) (a : Accepted n g) (r : QuickAnswer) (g'
   shown-contradiction : (t : ℕ) → r ≡ Contradiction t → EmptyInside n g g'
   shown-contradiction t q = go (quickRule n limit g) refl (sym (s .answer) ∙ ap saidOf q) (s .cells)
     where
-      go : (e : Ended) → quickRule n limit g ≡ e → saidBy e ≡ saidContradiction t → g' ≡ cellsBy n e → EmptyInside n g g'
+      go : (e : Ended) → quickRule n limit g ≡ e → answers (saidBy e) ≡ answers (saidContradiction t) → g' ≡ cellsBy n e → EmptyInside n g g'
       go (contradiction u) k z w = subst (EmptyInside n g) (sym w) (rule-contradiction n g a limit u k)
       go (closed u h) k z w = absurd (let y : _≡_ {A = ℕ} 0 1 = cc in omega arith)
       go (paused u h) k z w = absurd (let y : _≡_ {A = ℕ} 0 1 = cc in omega arith)
@@ -113,8 +114,8 @@ quick-unique n limit g r s h k p q = (said-unique r s (p .answer ∙ sym (q .ans
 
 -- an answer is the rule's on a grid without a refusal, or a refusal
 data Ran (n limit : ℕ) (g : List ℕ) (r : QuickAnswer) (g' : List ℕ) : Type 0 where
-  by-rule : gridRefusal n g ≡ 0 → saidOf r ≡ saidBy (quickRule n limit g) → g' ≡ cellsBy n (quickRule n limit g) → Ran n limit g r g'
-  by-refusal : 0 < gridRefusal n g → saidOf r ≡ saidRefused (gridRefusal n g) → g' ≡ g → Ran n limit g r g'
+  by-rule : gridRefusal n g ≡ 0 → saidOf r ≡ answers (saidBy (quickRule n limit g)) → g' ≡ cellsBy n (quickRule n limit g) → Ran n limit g r g'
+  by-refusal : 0 < gridRefusal n g → saidOf r ≡ refused (gridRefusal n g) → g' ≡ g → Ran n limit g r g'
 
 ran : (n limit : ℕ) (g : List ℕ) (r : QuickAnswer) (g' : List ℕ) → QuickCloses n limit g r g' → Ran n limit g r g'
 ran n limit g r g' q = go (ℕ-discrete (gridRefusal n g) 0)
@@ -125,19 +126,19 @@ ran n limit g r g' q = go (ℕ-discrete (gridRefusal n g) 0)
 
 -- ---- takes
 
-abbrev takesSaid : Said → ℕ
-takesSaid (saidClosed t) = t
-takesSaid (saidContradiction t) = t
-takesSaid (saidPaused t) = t
-takesSaid (saidRefused k) = 0
+abbrev takesSaid : Answered Said → ℕ
+takesSaid (answers (saidClosed t)) = t
+takesSaid (answers (saidContradiction t)) = t
+takesSaid (answers (saidPaused t)) = t
+takesSaid (refused k) = 0
 
-takes-said : (e : Ended) → takesSaid (saidBy e) ≡ takesOf e
+takes-said : (e : Ended) → takesSaid (answers (saidBy e)) ≡ takesOf e
 takes-said (contradiction t) = refl
 takes-said (closed t h) = refl
 takes-said (paused t h) = refl
 
 module _ (n limit : ℕ) (g : List ℕ) (t : ℕ) (g' : List ℕ) where
-  takes-few : (r : QuickAnswer) → takesSaid (saidOf r) ≡ t → ((k : ℕ) → saidOf r ≡ saidRefused k → ⊥) → QuickCloses n limit g r g' → TakesFew n limit t
+  takes-few : (r : QuickAnswer) → takesSaid (saidOf r) ≡ t → ((k : ℕ) → saidOf r ≡ refused k → ⊥) → QuickCloses n limit g r g' → TakesFew n limit t
   takes-few r e nr q = go (ran n limit g r g' q)
     where
       go : Ran n limit g r g' → TakesFew n limit t
@@ -159,7 +160,7 @@ module _ (n limit : ℕ) (g : List ℕ) (t : ℕ) (g' : List ℕ) where
   pub paused-limit : QuickCloses n limit g (Paused t) g' → (t ≡ limit) × (limit < 6448)
   paused-limit q = go (ran n limit g (Paused t) g' q)
     where
-      by : (e : Ended) → quickRule n limit g ≡ e → saidPaused t ≡ saidBy e → gridRefusal n g ≡ 0 → (t ≡ limit) × (limit < 6448)
+      by : (e : Ended) → quickRule n limit g ≡ e → answers (saidPaused t) ≡ answers (saidBy e) → gridRefusal n g ≡ 0 → (t ≡ limit) × (limit < 6448)
       by (contradiction u) p s z = absurd (let y : _≡_ {A = ℕ} 0 1 = cc in omega arith)
       by (closed u h) p s z = absurd (let y : _≡_ {A = ℕ} 0 1 = cc in omega arith)
       by (paused u h) p s z =
@@ -185,7 +186,7 @@ quickKind (Refused x) = Kind.refuses (numberOf x)
 
 module _ (n limit : ℕ) (g h : List ℕ) where
   -- the cells are as many as before, and no refusal is due
-  largest : (r : QuickAnswer) → ((k : ℕ) → saidOf r ≡ saidRefused k → ⊥) → QuickCloses n limit g r h → Closing allen n (cell n g) (cell n h) → Largest n g h
+  largest : (r : QuickAnswer) → ((k : ℕ) → saidOf r ≡ refused k → ⊥) → QuickCloses n limit g r h → Closing allen n (cell n g) (cell n h) → Largest n g h
   largest r nr q c = go (ran n limit g r h q)
     where
       go : Ran n limit g r h → Largest n g h
@@ -196,7 +197,7 @@ module _ (n limit : ℕ) (g h : List ℕ) where
   refusing-as : (x : Refusal) → Ran n limit g (Refused x) h → EndsAs n g (Kind.refuses (numberOf x)) h
   refusing-as x (by-rule z s w) = absurd (no-refusal (quickRule n limit g) s)
     where
-      no-refusal : (e : Ended) → saidRefused (numberOf x) ≡ saidBy e → ⊥
+      no-refusal : (e : Ended) → refused (numberOf x) ≡ answers (saidBy e) → ⊥
       no-refusal (contradiction t) s = let y : _≡_ {A = ℕ} 0 1 = cc in omega arith
       no-refusal (closed t k) s = let y : _≡_ {A = ℕ} 0 1 = cc in omega arith
       no-refusal (paused t k) s = let y : _≡_ {A = ℕ} 0 1 = cc in omega arith

@@ -1,10 +1,11 @@
 -- Document 01, "Quick closing" and "What comes back": the answer and the cells afterwards, for every input. Assumes nothing.
 use mathlib.Core.Path.{_≡_}
-use mathlib.Core.Bool.{Bool, true, false}
+use mathlib.Core.Bool.{cond}
 use mathlib.Core.List.{List}
 use Prim.Native.Nat.{ℕ, _*_}
 use lib.Dec.{eqb}
 use lib.ListN.{replicate}
+use Rattle.refusal.specs.Answered.{Answered, refused, answers, unlessDue}
 use Rattle.refusal.specs.Numbers.{numberOf}
 use Rattle.grid.specs.Cells.{cell, someEmpty, EmptyCell}
 use Rattle.grid.specs.Accepted.{gridRefusal}
@@ -15,26 +16,21 @@ use Rattle.theory.specs.Quick.{Ended, contradiction, closed, paused, run}
 use Rattle.quick.specs.declared.QuickAnswer.{QuickAnswer}
 use Rattle.quick.specs.declared.QuickAnswer.the-variants.{Closed, Contradiction, Paused, Refused}
 
--- document 01's four answers: with its takes, or the number of a refusal
+-- document 01's answers, each with its takes
 pub data Said : Type 0 where
   saidClosed : ℕ → Said
   saidContradiction : ℕ → Said
   saidPaused : ℕ → Said
-  saidRefused : ℕ → Said
 
-abbrev pub saidOf : QuickAnswer → Said
-saidOf (Closed t) = saidClosed t
-saidOf (Contradiction t) = saidContradiction t
-saidOf (Paused t) = saidPaused t
-saidOf (Refused r) = saidRefused (numberOf r)
-
-abbrev pub unless : Bool → Ended → Ended → Ended
-unless true a b = a
-unless false a b = b
+abbrev pub saidOf : QuickAnswer → Answered Said
+saidOf (Closed t) = answers (saidClosed t)
+saidOf (Contradiction t) = answers (saidContradiction t)
+saidOf (Paused t) = answers (saidPaused t)
+saidOf (Refused r) = refused (numberOf r)
 
 -- the rule on an accepted grid: a cell that is empty at the start, or takes from the list of all pairs
 unfoldable pub quickRule : ℕ → ℕ → List ℕ → Ended
-quickRule n limit g = unless (someEmpty g) (contradiction 0) (run allen n limit 0 g (allPairs n))
+quickRule n limit g = cond (someEmpty g) (contradiction 0) (run allen n limit 0 g (allPairs n))
 
 -- what is said of a run's end, and the cells that it leaves: zeros after a contradiction
 abbrev pub saidBy : Ended → Said
@@ -46,15 +42,6 @@ abbrev pub cellsBy : ℕ → Ended → List ℕ
 cellsBy n (contradiction t) = replicate (n * n) 0
 cellsBy n (closed t g) = g
 cellsBy n (paused t g) = g
-
--- where no refusal is due (0), and otherwise
-abbrev pub orRefused : Bool → Said → ℕ → Said
-orRefused true s k = s
-orRefused false s k = saidRefused k
-
-abbrev pub orKept : Bool → List ℕ → List ℕ → List ℕ
-orKept true new old = new
-orKept false new old = old
 
 -- closed: the largest closed grid inside g, and no cell of it is empty
 pub record ClosedInside (n : ℕ) (g g' : List ℕ) : Type 0 where
@@ -69,7 +56,7 @@ pub record EmptyInside (n : ℕ) (g g' : List ℕ) : Type 0 where
 
 -- quick closing of the lent cells g answers r and leaves the cells g'
 pub record QuickCloses (n limit : ℕ) (g : List ℕ) (r : QuickAnswer) (g' : List ℕ) : Type 0 where
-  pub answer : saidOf r ≡ orRefused (eqb (gridRefusal n g) 0) (saidBy (quickRule n limit g)) (gridRefusal n g)
-  pub cells : g' ≡ orKept (eqb (gridRefusal n g) 0) (cellsBy n (quickRule n limit g)) g
+  pub answer : saidOf r ≡ unlessDue (gridRefusal n g) (saidBy (quickRule n limit g))
+  pub cells : g' ≡ cond (eqb (gridRefusal n g) 0) (cellsBy n (quickRule n limit g)) g
   pub closed : (t : ℕ) → r ≡ Closed t → ClosedInside n g g'
   pub contradiction : (t : ℕ) → r ≡ Contradiction t → EmptyInside n g g'

@@ -2,11 +2,8 @@
 use mathlib.Core.Path.{_≡_, refl}
 use mathlib.Core.List.{List, [], _∷_}
 use Prim.Native.Nat.{ℕ}
-use Rattle.relation.specs.Answers.{Said, set, refused, converseSaid, composeSaid}
-
-abbrev refusalIn : Said → ℕ
-refusalIn (set a) = 0
-refusalIn (refused q) = q
+use Rattle.refusal.specs.Answered.{refusalIn}
+use Rattle.relation.specs.Answers.{converseSaid, composeSaid}
 
 unfoldable pub edges : List ℕ
 edges =

@@ -1,12 +1,11 @@
 -- Four sets in one number: what joins, cuts and picks them, and how they come to a composition. Assumes nothing.
 use mathlib.Core.Path.{_≡_, refl, sym, ap, ap₂, _∙_}
-use mathlib.Core.Bool.{Bool, true, false, _||_}
+use mathlib.Core.Bool.{Bool, true, false, _||_, cond}
 use Prim.Native.Nat.{ℕ, zero, suc, _+_, _*_, _/_, _%_, _^_, _≤_, _<_}
 use native.Mathlib.Omega.{arith}
 use native.Mathlib.Nat.{zero-div, mod-eq-of-lt}
 use lib.Dec.{eqb, eqb→eq, lit<}
 use lib.Bits.{bitAnd, bitOr, or-lt, or-zero-l, or-comm, and-zero-r, and-le-r, and-mask, or-shr, or-mod, and-shr, and-mod}
-use Rattle.relation.specs.Meaning.{pickℕ}
 use Rattle.relation.specs.Sets.{member, unionOver}
 use Rattle.relation.specs.Composition.{entry, composeRow, compose}
 use Rattle.relation.specs.Packed.{part, pickedOf, FourAt, RowsFrom, Marked}
@@ -26,7 +25,7 @@ part-or l x y = ap (λ (z : ℕ). z % 2 ^ 13) (or-shr x y (16 * l)) ∙ or-mod (
 part-and : (l x y : ℕ) → part l (bitAnd x y) ≡ bitAnd (part l x) (part l y)
 part-and l x y = ap (λ (z : ℕ). z % 2 ^ 13) (and-shr x y (16 * l)) ∙ and-mod (x / 2 ^ (16 * l)) (y / 2 ^ (16 * l)) 13
 
-part-pick : (l : ℕ) (b : Bool) (x : ℕ) → part l (pickℕ b x 0) ≡ pickℕ b (part l x) 0
+part-pick : (l : ℕ) (b : Bool) (x : ℕ) → part l (cond b x 0) ≡ cond b (part l x) 0
 part-pick l true x = refl
 part-pick l false x = ap (λ (z : ℕ). z % 2 ^ 13) (zero-div (2 ^ (16 * l)))
 
@@ -86,13 +85,13 @@ from-four i a =
 from-eight : (i a : ℕ) → member (suc (suc (suc (suc (suc (suc (suc (suc i)))))))) a ≡ member i (a / 256)
 from-eight i a = let e : a / 16 / 16 ≡ a / 256 = omega arith in from-four (suc (suc (suc (suc i)))) a ∙ from-four i (a / 16) ∙ ap (member i) e
 
-pick-lt : (b : Bool) (x : ℕ) → x < 8192 → pickℕ b x 0 < 8192
+pick-lt : (b : Bool) (x : ℕ) → x < 8192 → cond b x 0 < 8192
 pick-lt true x h = h
 pick-lt false x h = lit< tt
 
 module _ (f : ℕ → ℕ) (small : (r : ℕ) → r < 13 → f r < 8192) (a : ℕ) where
   abbrev one : ℕ → ℕ
-  one r = pickℕ (member r a) (f r) 0
+  one r = cond (member r a) (f r) 0
 
   one-lt : (r : ℕ) → r < 13 → one r < 8192
   one-lt r h = pick-lt (member r a) (f r) (small r h)
@@ -135,14 +134,14 @@ module _ (r b : ℕ) (c₀ c₁ c₂ c₃ c₄ c₅ c₆ c₇ c₈ c₉ d₀ d�
       ∙ ap₂ bitOr (part-or l (pickedOf b c₀ c₁ c₂ c₃) (pickedOf (b / 16) c₄ c₅ c₆ c₇) ∙ ap₂ bitOr (part-picked l b c₀ c₁ c₂ c₃) (part-picked l (b / 16) c₄ c₅ c₆ c₇)) (part-picked l (b / 256) c₈ c₉ d₀ d₁)
       ∙ rw (k₀ l h, k₁ l h, k₂ l h, k₃ l h, k₄ l h, k₅ l h, k₆ l h, k₇ l h, k₈ l h, k₉ l h, j₀ l h, j₁ l h) (sym (twelve (entry (r + l)) (entry-small (r + l)) b))
 
-  pub rows-are : RowsFrom r b (bitOr apart (pickℕ (member 12 b) d₂ 0))
+  pub rows-are : RowsFrom r b (bitOr apart (cond (member 12 b) d₂ 0))
   unfolding composeRow
   rows-are l h =
-      part-or l apart (pickℕ (member 12 b) d₂ 0)
-      ∙ ap₂ bitOr (rows-apart l h) (part-pick l (member 12 b) d₂ ∙ ap (λ (x : ℕ). pickℕ (member 12 b) x 0) (j₂ l h))
+      part-or l apart (cond (member 12 b) d₂ 0)
+      ∙ ap₂ bitOr (rows-apart l h) (part-pick l (member 12 b) d₂ ∙ ap (λ (x : ℕ). cond (member 12 b) x 0) (j₂ l h))
       ∙ below-next (entry (r + l)) b 12 (lit< tt) (entry-small (r + l) 12 (lit< tt)) ∙ union-small (entry (r + l)) b
 
-cut-pick : (b : Bool) (x : ℕ) → x < 8192 → bitAnd x (pickℕ b 8191 0) ≡ pickℕ b x 0
+cut-pick : (b : Bool) (x : ℕ) → x < 8192 → bitAnd x (cond b 8191 0) ≡ cond b x 0
 cut-pick true x h = and-mask x 13 ∙ mod-eq-of-lt h
 cut-pick false x h = and-zero-r x
 
@@ -151,7 +150,7 @@ folded-cut : (r n b x m : ℕ) → RowsFrom r b x → Marked n m
     → folded (bitAnd x m) ≡ pickedOf n (composeRow (r + 0) b) (composeRow (r + 1) b) (composeRow (r + 2) b) (composeRow (r + 3) b)
 folded-cut r n b x m rows marks = ap₂ bitOr (ap₂ bitOr (ap₂ bitOr (at 0 (lit< tt)) (at 1 (lit< tt))) (at 2 (lit< tt))) (at 3 (lit< tt))
   where
-    at : (l : ℕ) → l < 4 → part l (bitAnd x m) ≡ pickℕ (member l n) (composeRow (r + l) b) 0
+    at : (l : ℕ) → l < 4 → part l (bitAnd x m) ≡ cond (member l n) (composeRow (r + l) b) 0
     at l h = part-and l x m ∙ ap₂ bitAnd (rows l h) (marks l h) ∙ cut-pick (member l n) (composeRow (r + l) b) (row-lt (r + l) b)
 
 module _ (a b x y z p q s : ℕ) (h₀ : RowsFrom 0 b x) (h₁ : RowsFrom 4 b y) (h₂ : RowsFrom 8 b z) (m₀ : Marked a p) (m₁ : Marked (a / 16) q) (m₂ : Marked (a / 256) s) where
@@ -163,10 +162,10 @@ module _ (a b x y z p q s : ℕ) (h₀ : RowsFrom 0 b x) (h₁ : RowsFrom 4 b y)
       ∙ sym (twelve (λ r. composeRow r b) (λ r h. row-lt r b) a)
 
 -- and with it
-pub with-eq : (a b : ℕ) → bitOr (unionOver (λ r. composeRow r b) (a % 4096)) (pickℕ (member 12 a) (b % 8192) 0) ≡ compose a b
+pub with-eq : (a b : ℕ) → bitOr (unionOver (λ r. composeRow r b) (a % 4096)) (cond (member 12 a) (b % 8192) 0) ≡ compose a b
 unfolding compose composeRow
 with-eq a b =
-    ap (λ (x : ℕ). bitOr (unionOver (λ r. composeRow r b) (a % 4096)) (pickℕ (member 12 a) x 0)) eq-row
+    ap (λ (x : ℕ). bitOr (unionOver (λ r. composeRow r b) (a % 4096)) (cond (member 12 a) x 0)) eq-row
     ∙ below-next (λ r. composeRow r b) a 12 (lit< tt) (row-lt 12 b) ∙ union-small (λ r. composeRow r b) a
   where
     eq-row : b % 8192 ≡ composeRow 12 b
@@ -219,7 +218,7 @@ the-last x h = omega arith
 abbrev spread : ℕ → ℕ
 spread d = bitAnd (d * 35185445863425) 281479271743489 * 8191
 
-spread-test : all 16 (λ d. all 4 (λ l. eqb (part l (spread d)) (pickℕ (member l d) 8191 0))) ≡ true
+spread-test : all 16 (λ d. all 4 (λ l. eqb (part l (spread d)) (cond (member l d) 8191 0))) ≡ true
 unfolding member
 spread-test = refl
 
@@ -233,8 +232,8 @@ last-four (suc (suc (suc (suc l)))) n h = absurd (omega arith)
 
 pub marked-parts : (n : ℕ) → Marked n (spread (n % 16))
 marked-parts n l h =
-    let at = all-at 16 (λ d. all 4 (λ l. eqb (part l (spread d)) (pickℕ (member l d) 8191 0))) (T-of spread-test) (n % 16) (omega arith) in
-    eqb→eq _ _ (all-at 4 (λ l. eqb (part l (spread (n % 16))) (pickℕ (member l (n % 16)) 8191 0)) at l h) ∙ ap (λ (b : Bool). pickℕ b 8191 0) (last-four l n h)
+    let at = all-at 16 (λ d. all 4 (λ l. eqb (part l (spread d)) (cond (member l d) 8191 0))) (T-of spread-test) (n % 16) (omega arith) in
+    eqb→eq _ _ (all-at 4 (λ l. eqb (part l (spread (n % 16))) (cond (member l (n % 16)) 8191 0)) at l h) ∙ ap (λ (b : Bool). cond b 8191 0) (last-four l n h)
 
 pub spread-lt : (d : ℕ) → spread d < 2305843009213693952
 spread-lt d = omega (arith, and-le-r (d * 35185445863425) 281479271743489)

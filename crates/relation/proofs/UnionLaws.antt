@@ -1,13 +1,12 @@
 -- The union of sets f r over the members r of a set: what its members are, and how a loop over the relations gathers it. Assumes nothing.
 use mathlib.Core.Path.{_≡_, sym, ap, _∙_, subst}
-use mathlib.Core.Bool.{_&&_}
+use mathlib.Core.Bool.{_&&_, cond}
 use Prim.Native.Nat.{ℕ, zero, suc, _+_, _-_, _*_, _/_, _%_, _^_, _<_}
 use native.Mathlib.Omega.{arith}
 use lib.Dec.{T, eqb, eqb→eq, eqb-refl, lit<}
 use native.Mathlib.Nat.{add-comm, mod-lt}
 use lib.Bits.{bitOr, or-lt, or-shifted-r}
 use lib.Pow.{pow-pos, mod-pow-add}
-use Rattle.relation.specs.Meaning.{pickℕ}
 use Rattle.relation.specs.Sets.{member, some, unionOver, Inside}
 use Rattle.relation.proofs.Tested.{T-of, of-T, and-left, and-right, and-both, or-cases, some-at, some-in}
 use Rattle.relation.proofs.SetLaws.{member-or, member-low-marks, member-none, member-mark, setOf-lt, member-setOf, same-inside, inside-or-left, inside-or-right, or-inside}
@@ -110,13 +109,13 @@ module _ (f : ℕ → ℕ) (a : ℕ) where
   below-first = let e : a % 1 ≡ 0 = omega arith in sym (ap (unionOver f) e ∙ union-none f)
 
   pub below-next : (r : ℕ) → r < 13 → f r < 8192
-      → bitOr (unionOver f (a % 2 ^ r)) (pickℕ (member r a) (f r) 0) ≡ unionOver f (a % 2 ^ (r + 1))
+      → bitOr (unionOver f (a % 2 ^ r)) (cond (member r a) (f r) 0) ≡ unionOver f (a % 2 ^ (r + 1))
   unfolding member
   below-next r h l =
       ap (bitOr (unionOver f (a % 2 ^ r))) (mark-of (a / 2 ^ r % 2) (omega arith)) ∙ sym (union-or f (a % 2 ^ r) (a / 2 ^ r % 2 * 2 ^ r))
       ∙ ap (unionOver f) (or-shifted-r (a / 2 ^ r % 2) r (a % 2 ^ r) (mod-lt a (pow-pos r)) ∙ sym (mod-pow-add a 1 r) ∙ ap (λ (k : ℕ). a % 2 ^ k) (add-comm 1 r))
     where
-      mark-of : (x : ℕ) → x < 2 → pickℕ (eqb x 1) (f r) 0 ≡ unionOver f (x * 2 ^ r)
+      mark-of : (x : ℕ) → x < 2 → cond (eqb x 1) (f r) 0 ≡ unionOver f (x * 2 ^ r)
       mark-of zero k = let z : 0 * 2 ^ r ≡ 0 = omega arith in sym (ap (unionOver f) z ∙ union-none f)
       mark-of (suc zero) k = let z : 1 * 2 ^ r ≡ 2 ^ r = omega arith in sym (ap (unionOver f) z ∙ union-mark f r h l)
       mark-of (suc (suc x)) k = absurd (omega arith)

@@ -1,19 +1,16 @@
--- What the two functions on sets hand back, in document 01's numbers and values. Assumes nothing.
-use mathlib.Core.Bool.{Bool, true, false, _&&_}
+-- What the two functions on sets hand back, in document 01's numbers and values.
+use mathlib.Core.Bool.{cond, _&&_}
 use Prim.Native.Nat.{ℕ}
 use lib.Dec.{ltb}
+use Rattle.refusal.specs.Answered.{Answered, refused, answers, unlessDue}
 use Rattle.refusal.specs.Numbers.{numberOf}
 use Rattle.relation.specs.Composition.{converse, compose}
 use Rattle.relation.specs.declared.SetAnswer.{SetAnswer}
 use Rattle.relation.specs.declared.SetAnswer.the-variants.{Set, Refused}
 
 -- a set, or the number of a refusal
-pub data Said : Type 0 where
-  set : ℕ → Said
-  refused : ℕ → Said
-
-abbrev pub saidOf : SetAnswer → Said
-saidOf (Set a) = set a
+abbrev pub saidOf : SetAnswer → Answered ℕ
+saidOf (Set a) = answers a
 saidOf (Refused r) = refused (numberOf r)
 
 -- a set is one of the numbers 0 to 8191
@@ -21,12 +18,8 @@ abbrev pub howManySets : ℕ
 howManySets = 8192
 
 -- refusal 3 is given exactly where a set handed in is above 8191
-abbrev pub orThree : Bool → ℕ → Said
-orThree true a = set a
-orThree false a = refused 3
+abbrev pub converseSaid : ℕ → Answered ℕ
+converseSaid a = unlessDue (cond (ltb a howManySets) 0 3) (converse a)
 
-abbrev pub converseSaid : ℕ → Said
-converseSaid a = orThree (ltb a howManySets) (converse a)
-
-abbrev pub composeSaid : ℕ → ℕ → Said
-composeSaid a b = orThree (ltb a howManySets && ltb b howManySets) (compose a b)
+abbrev pub composeSaid : ℕ → ℕ → Answered ℕ
+composeSaid a b = unlessDue (cond (ltb a howManySets && ltb b howManySets) 0 3) (compose a b)

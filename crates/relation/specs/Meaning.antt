@@ -1,6 +1,6 @@
 -- Document 01, "The thirteen relations": what each means between two placed events, over all whole numbers. Assumes nothing.
 use mathlib.Core.Path.{_≡_}
-use mathlib.Core.Bool.{Bool, true, false}
+use mathlib.Core.Bool.{cond}
 use mathlib.Core.List.{List, [], _∷_}
 use Prim.Native.Nat.{ℕ, _+_, _-_, _%_}
 use Prim.Native.String.{String}
@@ -66,10 +66,6 @@ relation r = getD relations r never
 abbrev pub holds : ℕ → Event → Event → Type 0
 holds r = relation r .means
 
-abbrev pub pickℕ : Bool → ℕ → ℕ → ℕ
-pickℕ true a b = a
-pickℕ false a b = b
-
 -- the number of relation r with X and Y exchanged: neighbours change places, and eq is kept
 unfoldable pub exchanged : ℕ → ℕ
-exchanged r = pickℕ (eqb r 12) 12 (pickℕ (eqb (r % 2) 0) (r + 1) (r - 1))
+exchanged r = cond (eqb r 12) 12 (cond (eqb (r % 2) 0) (r + 1) (r - 1))

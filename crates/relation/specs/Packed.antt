@@ -1,8 +1,8 @@
 -- Four sets in one number, with sixteen digits for each. Inner functions cite this; the public statements do not. Assumes nothing.
+use mathlib.Core.Bool.{cond}
 use mathlib.Core.Path.{_≡_}
 use Prim.Native.Nat.{ℕ, _+_, _*_, _/_, _%_, _^_, _<_}
 use lib.Bits.{bitOr}
-use Rattle.relation.specs.Meaning.{pickℕ}
 use Rattle.relation.specs.Sets.{member}
 use Rattle.relation.specs.Composition.{entry, composeRow}
 use Rattle.relation.specs.declared.Rows.{Rows}
@@ -13,7 +13,7 @@ part l x = x / 2 ^ (16 * l) % 2 ^ 13
 
 -- the union of those of four numbers that n marks
 abbrev pub pickedOf : ℕ → ℕ → ℕ → ℕ → ℕ → ℕ
-pickedOf n p q v w = bitOr (bitOr (bitOr (pickℕ (member 0 n) p 0) (pickℕ (member 1 n) q 0)) (pickℕ (member 2 n) v 0)) (pickℕ (member 3 n) w 0)
+pickedOf n p q v w = bitOr (bitOr (bitOr (cond (member 0 n) p 0) (cond (member 1 n) q 0)) (cond (member 2 n) v 0)) (cond (member 3 n) w 0)
 
 -- relations r to r + 3 with relation s
 abbrev pub FourAt : ℕ → ℕ → ℕ → Type 0
@@ -25,7 +25,7 @@ RowsFrom r b x = (l : ℕ) → l < 4 → part l x ≡ composeRow (r + l) b
 
 -- all relations in each of the four sets that n marks
 abbrev pub Marked : ℕ → ℕ → Type 0
-Marked n x = (l : ℕ) → l < 4 → part l x ≡ pickℕ (member l n) 8191 0
+Marked n x = (l : ℕ) → l < 4 → part l x ≡ cond (member l n) 8191 0
 
 -- the rows are those of their set
 pub record RowsOf (r : Rows) : Type 0 where

@@ -1,8 +1,9 @@
 // Sets of the thirteen relations: converse and composition.
+ghost use mathlib.Core.Bool.{cond};
 ghost use mathlib.Core.Path.{_≡_};
 ghost use Prim.Native.Nat.{_+_, _-_, _*_, _%_, _^_, _<_};
 ghost use lib.Count.{trailingZeros};
-ghost use Rattle.relation.specs.Meaning.{exchanged, pickℕ};
+ghost use Rattle.relation.specs.Meaning.{exchanged};
 ghost use Rattle.relation.specs.Sets.{member};
 ghost use Rattle.relation.specs.Typed.{ListsExchanged};
 ghost use Rattle.relation.specs.Composition.{table, entry, converse, compose};
@@ -82,7 +83,7 @@ pub fn without_lowest(a: u16) -> u16
 // A set x where r is a member of a, and else nothing.
 fn given(a: u16, r: usize, x: u16) -> u16
     requires { ⌜ r < 13 ⌝ }
-    ensures { λ y. ⌜ y ≡ pickℕ (member r a) x 0 ⌝ }
+    ensures { λ y. ⌜ y ≡ cond (member r a) x 0 ⌝ }
 {
     if has(a, r) { x } else { 0 }
 }
@@ -158,7 +159,7 @@ fn marked(n: u16) -> u64
 
 // Four sets where b has eq, and else nothing.
 fn where_eq(b: u16, four: u64) -> u64
-    ensures { λ x. ⌜ x ≡ pickℕ (member 12 b) four 0 ⌝ }
+    ensures { λ x. ⌜ x ≡ cond (member 12 b) four 0 ⌝ }
 {
     if has(b, 12) { four } else { 0 }
 }

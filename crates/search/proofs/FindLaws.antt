@@ -1,7 +1,7 @@
 -- From the code's answers to the public statement. Assumes nothing.
 use mathlib.Core.Path.{_≡_, refl, sym, ap, subst, _∙_}
 use mathlib.Core.Logic.{_⊎_, inl, inr}
-use mathlib.Core.Bool.{Bool, true, false}
+use mathlib.Core.Bool.{Bool, true, false, cond}
 use mathlib.Core.List.{List}
 use Prim.Native.Nat.{ℕ, _*_, _≤_}
 use native.Mathlib.Omega.{arith}
@@ -9,12 +9,14 @@ use borrow.Author.Tests.{eq-eqb, ne-eqb}
 use lib.Dec.{eqb}
 use lib.IntN.{ℤ}
 use lib.ListN.{length}
+use Rattle.refusal.specs.Answered.{Answered, refused, answers}
 use Rattle.refusal.specs.Numbers.{numberOf}
 use Rattle.refusal.specs.declared.Refusal.{Refusal}
 use Rattle.refusal.proofs.NumberLaws.{number-pos, number-unique}
+use Rattle.refusal.proofs.AnsweredLaws.{first-none}
 use Rattle.grid.specs.Cells.{someEmpty}
 use Rattle.grid.specs.Accepted.{Accepted, cellRefusal}
-use Rattle.grid.proofs.AcceptedLaws.{accepted, first-none, size-fine}
+use Rattle.grid.proofs.AcceptedLaws.{accepted, size-fine}
 use Rattle.theory.specs.Allen.{allen}
 use Rattle.theory.specs.Search.{Tried, emptied, closed, closesTo, Found, placed, none, gaveUp, pairsFrom}
 use Rattle.theory.specs.Tried.{triedBy}
@@ -26,7 +28,7 @@ use Rattle.placing.specs.Settling.{settles}
 use Rattle.placing.specs.Checking.{lengthRefusal}
 use Rattle.placing.proofs.CheckLaws.{lengths}
 use Rattle.search.specs.Rule.{thereAt, tryAt, searchAt, searchOf, fromClosed}
-use Rattle.search.specs.Answers.{Said, saidPlaced, saidNone, saidGaveUp, saidRefused, saidOf, searchRefusal, saidBy, roomBy, orRefused, Looks}
+use Rattle.search.specs.Answers.{Said, saidPlaced, saidNone, saidGaveUp, saidOf, searchRefusal, saidBy, roomBy, Looks}
 use Rattle.search.specs.Steps.{saidWith, Shows, Answers, Searched}
 use Rattle.search.specs.declared.Looked.{Looked}
 use Rattle.search.specs.declared.PlaceAnswer.{PlaceAnswer}
@@ -51,12 +53,12 @@ pub first-searched : (n : ℕ) (g : List ℕ) → Accepted n g → (e : End) (v 
 first-searched n g a e v h q is = whole-searched n h (first-whole n g a h (sym q ∙ a-grid e v h is))
 
 pub answers-none : (n : ℕ) (e : Found) (room : List ℤ) → e ≡ none 0 → Answers n e room (None 0) room
-answers-none n e room q = record { answer = sym (ap saidBy q); room-after = sym (ap (λ (x : Found). roomBy n x room) q) }
+answers-none n e room q = record { answer = sym (ap (λ (x : Found). answers (saidBy x)) q); room-after = sym (ap (λ (x : Found). roomBy n x room) q) }
 
 pub answers-shown : (n a : ℕ) (e f : Found) (room room' : List ℤ) (l : Looked) (ans : PlaceAnswer) → e ≡ f → Shows n a f room l room'
-    → saidOf ans ≡ saidWith (l .outcome) (l .tries) → Answers n e room ans room'
+    → saidOf ans ≡ answers (saidWith (l .outcome) (l .tries)) → Answers n e room ans room'
 answers-shown n a e f room room' l ans q s w =
-    record { answer = w ∙ s .answer ∙ sym (ap saidBy q); room-after = s .room-after ∙ sym (ap (λ (x : Found). roomBy n x room) q) }
+    record { answer = w ∙ ap answers (s .answer ∙ sym (ap saidBy q)); room-after = s .room-after ∙ sym (ap (λ (x : Found). roomBy n x room) q) }
 
 -- ---- the public statement
 
@@ -114,17 +116,17 @@ looks-unique n a g room h k r s p q = (said-unique r s (p .answer ∙ sym (q .an
 -- ---- the tries are never more than the allowance
 
 -- the tries that an answer reports
-abbrev reported : Said → ℕ
-reported (saidPlaced t) = t
-reported (saidNone t) = t
-reported (saidGaveUp t) = t
-reported (saidRefused k) = 0
+abbrev reported : Answered Said → ℕ
+reported (answers (saidPlaced t)) = t
+reported (answers (saidNone t)) = t
+reported (answers (saidGaveUp t)) = t
+reported (refused k) = 0
 
-search-within : (n a : ℕ) (g : List ℕ) → reported (saidBy (searchOf n a g)) ≤ a
+search-within : (n a : ℕ) (g : List ℕ) → reported (answers (saidBy (searchOf n a g))) ≤ a
 unfolding searchOf searchAt
 search-within n a g = subst (λ (t : ℕ). t ≤ a) (same (searchOf n a g)) (go (closesTo allen n g))
   where
-    same : (e : Found) → triesOf e ≡ reported (saidBy e)
+    same : (e : Found) → triesOf e ≡ reported (answers (saidBy e))
     same (placed t h) = refl
     same (none t) = refl
     same (gaveUp t) = refl
@@ -135,9 +137,9 @@ search-within n a g = subst (λ (t : ℕ). t ≤ a) (same (searchOf n a g)) (go 
 
 pub looks-within : (n a : ℕ) (g : List ℕ) (room room' : List ℤ) (ans : PlaceAnswer) → Looks n a g room ans room'
     → (t : ℕ) → (ans ≡ Placed t) ⊎ (ans ≡ None t) ⊎ (ans ≡ GaveUp t) → t ≤ a
-looks-within n a g room room' ans l t w = subst (λ (u : ℕ). u ≤ a) (said w) (subst (λ (s : Said). reported s ≤ a) (sym (l .answer)) (by (eqb (searchRefusal n g (length room)) 0)))
+looks-within n a g room room' ans l t w = subst (λ (u : ℕ). u ≤ a) (said w) (subst (λ (s : Answered Said). reported s ≤ a) (sym (l .answer)) (by (eqb (searchRefusal n g (length room)) 0)))
   where
-    by : (b : Bool) → reported (orRefused b (saidBy (searchOf n a g)) (searchRefusal n g (length room))) ≤ a
+    by : (b : Bool) → reported (cond b (answers (saidBy (searchOf n a g))) (refused (searchRefusal n g (length room)))) ≤ a
     by true = search-within n a g
     by false = omega arith
 

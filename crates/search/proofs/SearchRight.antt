@@ -13,6 +13,7 @@ use Rattle.relation.specs.Meaning.{Event}
 use Rattle.relation.specs.Sets.{member}
 use Rattle.relation.proofs.Rank.{In as Among, here, there}
 use Rattle.relation.proofs.Relations.{exactly-one}
+use Rattle.refusal.specs.Answered.{answers}
 use Rattle.grid.specs.Cells.{cell, someEmpty}
 use Rattle.grid.specs.Accepted.{Accepted}
 use Rattle.grid.specs.Meets.{Meets}
@@ -245,7 +246,7 @@ module _ (n : ℕ) (g : List ℕ) (a : Accepted n g) where
 
     -- ---- every answer
 
-    pub means : (e : Found) → searchOf n allowance g ≡ e → (ans : PlaceAnswer) (room xs : List ℤ) → saidOf ans ≡ saidBy e → xs ≡ roomBy n e room → Meant n allowance g xs ans
+    pub means : (e : Found) → searchOf n allowance g ≡ e → (ans : PlaceAnswer) (room xs : List ℤ) → saidOf ans ≡ answers (saidBy e) → xs ≡ roomBy n e room → Meant n allowance g xs ans
     means (placed t k) q (Placed u) room xs s x = subst (FirstPlacing n g) (sym x) (placed-means t k q)
     means (none t) q (None u) room xs s x = none-means t q
     means (gaveUp t) q (GaveUp u) room xs s x = let z : u ≡ t = cc in z ∙ gave-up-means t q

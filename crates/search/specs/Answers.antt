@@ -1,14 +1,15 @@
 -- Document 01, "Looking for a placing" and "What comes back": the answer and the room afterwards, for every input. Assumes nothing.
 use mathlib.Core.Path.{_≡_}
-use mathlib.Core.Bool.{Bool, true, false}
+use mathlib.Core.Bool.{cond}
 use mathlib.Core.List.{List}
 use Prim.Native.Nat.{ℕ, _*_}
 use lib.Dec.{eqb}
 use lib.IntN.{ℤ}
 use lib.ListN.{length}
+use Rattle.refusal.specs.Answered.{Answered, refused, answers, unlessDue, firstOf}
 use Rattle.refusal.specs.Numbers.{numberOf}
 use Rattle.relation.specs.Meaning.{Event, holds}
-use Rattle.grid.specs.Accepted.{cellRefusal, firstOf}
+use Rattle.grid.specs.Accepted.{cellRefusal}
 use Rattle.grid.specs.Meets.{Meets}
 use Rattle.theory.specs.Search.{Pair, Found, placed, none, gaveUp, pairsFrom, NoLater}
 use Rattle.placing.specs.Placing.{Places, MeetsAt, NoGaps}
@@ -18,18 +19,17 @@ use Rattle.search.specs.Rule.{searchOf}
 use Rattle.search.specs.declared.PlaceAnswer.{PlaceAnswer}
 use Rattle.search.specs.declared.PlaceAnswer.the-variants.{Placed, None, GaveUp, Refused}
 
--- document 01's four answers: with its tries, or the number of a refusal
+-- document 01's answers, each with its tries
 pub data Said : Type 0 where
   saidPlaced : ℕ → Said
   saidNone : ℕ → Said
   saidGaveUp : ℕ → Said
-  saidRefused : ℕ → Said
 
-abbrev pub saidOf : PlaceAnswer → Said
-saidOf (Placed t) = saidPlaced t
-saidOf (None t) = saidNone t
-saidOf (GaveUp t) = saidGaveUp t
-saidOf (Refused r) = saidRefused (numberOf r)
+abbrev pub saidOf : PlaceAnswer → Answered Said
+saidOf (Placed t) = answers (saidPlaced t)
+saidOf (None t) = answers (saidNone t)
+saidOf (GaveUp t) = answers (saidGaveUp t)
+saidOf (Refused r) = refused (numberOf r)
 
 -- 1, 2, 6, then 3, 4, 5; 0 is none
 unfoldable pub searchRefusal : ℕ → List ℕ → ℕ → ℕ
@@ -45,15 +45,6 @@ abbrev pub roomBy : ℕ → Found → List ℤ → List ℤ
 roomBy n (placed t h) room = placingOf n h
 roomBy n (none t) room = room
 roomBy n (gaveUp t) room = room
-
--- where no refusal is due (0), and otherwise
-abbrev pub orRefused : Bool → Said → ℕ → Said
-orRefused true s k = s
-orRefused false s k = saidRefused k
-
-abbrev pub orKept : Bool → List ℤ → List ℤ → List ℤ
-orKept true new old = new
-orKept false new old = old
 
 -- ---- the meaning
 
@@ -77,6 +68,6 @@ Meant n allowance g xs (Refused r) = Unit {0}
 
 -- looking for a placing of the grid g with the lent room answers a and leaves the room room'
 pub record Looks (n allowance : ℕ) (g : List ℕ) (room : List ℤ) (a : PlaceAnswer) (room' : List ℤ) : Type 0 where
-  pub answer : saidOf a ≡ orRefused (eqb (searchRefusal n g (length room)) 0) (saidBy (searchOf n allowance g)) (searchRefusal n g (length room))
-  pub room-after : room' ≡ orKept (eqb (searchRefusal n g (length room)) 0) (roomBy n (searchOf n allowance g) room) room
+  pub answer : saidOf a ≡ unlessDue (searchRefusal n g (length room)) (saidBy (searchOf n allowance g))
+  pub room-after : room' ≡ cond (eqb (searchRefusal n g (length room)) 0) (roomBy n (searchOf n allowance g) room) room
   pub means : Meant n allowance g room' a

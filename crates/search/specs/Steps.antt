@@ -6,6 +6,7 @@ use Prim.Native.Nat.{ℕ, _+_, _-_, _≤_, _<_}
 use lib.Dec.{ltb}
 use lib.IntN.{ℤ}
 use lib.ListN.{length}
+use Rattle.refusal.specs.Answered.{answers}
 use Rattle.grid.specs.Cells.{cell}
 use Rattle.grid.specs.Accepted.{Accepted}
 use Rattle.theory.specs.Fair.{Full}
@@ -34,7 +35,7 @@ pub record Shows (n allowance : ℕ) (e : Found) (room : List ℤ) (l : Looked) 
 
 -- the same, as an answer
 pub record Answers (n : ℕ) (e : Found) (room : List ℤ) (a : PlaceAnswer) (room' : List ℤ) : Type 0 where
-  pub answer : saidOf a ≡ saidBy e
+  pub answer : saidOf a ≡ answers (saidBy e)
   pub room-after : room' ≡ roomBy n e room
 
 -- past the last cell

@@ -2,6 +2,7 @@
 ghost use mathlib.Core.Path.{_≡_};
 ghost use Prim.Native.Nat.{_*_, _≤_, _<_};
 ghost use lib.ListN.{length, take};
+ghost use Rattle.refusal.specs.Answered.{answers};
 ghost use Rattle.grid.specs.Cells.{Held};
 ghost use Rattle.grid.specs.Accepted.{Accepted, judgedNumber};
 ghost use Rattle.theory.specs.Fair.{Fair};
@@ -233,7 +234,7 @@ fn close_copy(
 
 // The search's end as an answer.
 fn answer_of(found: Looked) -> PlaceAnswer
-    ensures { λ a. ⌜ saidOf a ≡ saidWith (found .outcome) (found .tries) ⌝ }
+    ensures { λ a. ⌜ saidOf a ≡ answers (saidWith (found .outcome) (found .tries)) ⌝ }
 {
     let tries = found.tries;
     let outcome = found.outcome;

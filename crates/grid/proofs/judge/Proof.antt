@@ -1,6 +1,7 @@
 -- The cells are looked at only where the size is right, so the first refusal comes first.
 use mathlib.Core.Path.{sym, _∙_}
-use Rattle.grid.proofs.AcceptedLaws.{sized, first-next}
+use Rattle.grid.proofs.AcceptedLaws.{sized}
+use Rattle.refusal.proofs.AnsweredLaws.{first-next}
 use Rattle.grid.proofs.JudgedLaws.{judged-accepted, judged-refused}
 use borrow.Author.Needs.{needs}
 use Rattle.grid.proofs.judge.Statement.{statement}

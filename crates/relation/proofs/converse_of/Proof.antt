@@ -1,4 +1,5 @@
 -- What is gathered so far is the converse of the relations below r.
+use mathlib.Core.Bool.{cond}
 use mathlib.Core.Path.{_≡_, ap, ap₂, _∙_}
 use mathlib.Core.List.{List, [], _∷_}
 use Prim.Native.Nat.{ℕ, _-_, _%_, _^_, _≤_}
@@ -6,7 +7,7 @@ use lib.Bits.{bitOr}
 use lib.Dec.{eqb, eqb→eq}
 use lib.ListN.{getD}
 use native.Mathlib.Omega.{arith}
-use Rattle.relation.specs.Meaning.{exchanged, pickℕ}
+use Rattle.relation.specs.Meaning.{exchanged}
 use Rattle.relation.specs.Sets.{member}
 use Rattle.relation.specs.Typed.{ListsExchanged}
 use Rattle.relation.specs.Composition.{converse}
@@ -61,7 +62,7 @@ loop-again c =
     let h = c .before .before .before .before .loop-test .taken in
     let marked = c .before .mark .ensures ∙ ap (λ (s : ℕ). 2 ^ s) (c .before .before .exchanged .ensures) in (
       omega (arith, h),
-      ap₂ bitOr (L .inv .1) (c .given .ensures ∙ ap (λ (x : ℕ). pickℕ (member (L .r) a) x 0) marked)
+      ap₂ bitOr (L .inv .1) (c .given .ensures ∙ ap (λ (x : ℕ). cond (member (L .r) a) x 0) marked)
           ∙ below-next (λ r. 2 ^ exchanged r) a (L .r) h (mark-lt (exchanged (L .r)) (exchanged-lt (L .r) h)),
     )
 

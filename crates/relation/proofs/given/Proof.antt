@@ -1,7 +1,6 @@
 -- Where r is a member, all of x; else nothing.
 use mathlib.Core.Path.{sym, ap, _∙_}
-use mathlib.Core.Bool.{Bool}
-use Rattle.relation.specs.Meaning.{pickℕ}
+use mathlib.Core.Bool.{Bool, cond}
 use borrow.Author.Needs.{needs}
 use Rattle.relation.proofs.given.Statement.{statement}
 use Rattle.relation.proofs.given.Tie as tie
@@ -10,10 +9,10 @@ has-requires : tie.Need-has-requires
 has-requires c κs = search needs
 
 returns : tie.Need-returns
-returns c = sym (ap (λ (y : Bool). pickℕ y (c .before .before .args .x) 0) (sym (c .before .has .ensures) ∙ c .if1 .taken))
+returns c = sym (ap (λ (y : Bool). cond y (c .before .before .args .x) 0) (sym (c .before .has .ensures) ∙ c .if1 .taken))
 
 returns-2 : tie.Need-returns-2
-returns-2 c = sym (ap (λ (y : Bool). pickℕ y (c .before .before .args .x) 0) (sym (c .before .has .ensures) ∙ c .if1 .left))
+returns-2 c = sym (ap (λ (y : Bool). cond y (c .before .before .args .x) 0) (sym (c .before .has .ensures) ∙ c .if1 .left))
 
 pub given-spec : {M : Type 1} → statement M
 given-spec = tie.close (tie.spec has-requires returns returns-2)

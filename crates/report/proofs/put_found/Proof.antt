@@ -3,6 +3,7 @@ use mathlib.Core.Path.{_≡_, sym, _∙_, ap}
 use native.Mathlib.Omega.{arith}
 use Rattle.sheet.proofs.ContentsLaws.{names-length}
 use Rattle.search.specs.Rule.{searchOf}
+use Rattle.refusal.specs.Answered.{answers}
 use Rattle.search.specs.Answers.{saidOf, saidBy}
 use Rattle.search.specs.declared.PlaceAnswer.{PlaceAnswer}
 use Rattle.report.specs.Report.{placedLine, noneLine, gaveUpLine}
@@ -17,7 +18,7 @@ S F = F .before .before .before .before .before .before .before
 
 -- what the search found
 said : (F : tie.After-find-placing) (a : PlaceAnswer) → F .find-placing .result ≡ a
-    → saidOf a ≡ saidBy (searchOf (S F .args .n) (S F .args .allowance) (S F .args .g .now))
+    → saidOf a ≡ answers (saidBy (searchOf (S F .args .n) (S F .args .allowance) (S F .args .g .now)))
 said F a e = sym (ap saidOf e) ∙ answer-is _ _ _ _ _ _ (S F .pre .1) (S F .pre .2) (F .find-placing .ensures)
 
 find-placing-requires : tie.Need-find-placing-requires

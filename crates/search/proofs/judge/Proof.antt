@@ -1,6 +1,6 @@
 -- The cells are looked at only where the lengths are right.
 use mathlib.Core.Path.{sym, _∙_}
-use Rattle.grid.proofs.AcceptedLaws.{first-next}
+use Rattle.refusal.proofs.AnsweredLaws.{first-next}
 use Rattle.grid.proofs.JudgedLaws.{judged-accepted, judged-refused}
 use Rattle.placing.proofs.CheckLaws.{lengths}
 use Rattle.search.specs.Answers.{searchRefusal}
