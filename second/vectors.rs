@@ -8,6 +8,7 @@ use crate::relation::{composition_of, converse_of, mark, ANY, RELATIONS};
 use crate::search::{by_quick_closing, check, search, search_grid, Answer, Placing};
 use crate::sheet::{self, MOST_BYTES, ROOM_CELLS};
 use crate::sheet_cases;
+use std::collections::HashSet;
 
 const REFUSED: u8 = 3;
 
@@ -304,34 +305,59 @@ fn add_search(vectors: &mut Vectors, n: u32, allowance: u32, cells: &[u16], numb
 
 // Checking
 
+/// A check of more cells than this is long.
+const LONG_CHECK: usize = 600;
+
+/// The files stay short: no check is held twice, and of the long ones by name every fourth is held.
+struct Checks {
+    vectors: Vectors,
+    seen: HashSet<Vec<u8>>,
+    /// How many long ones by name came so far, held or not.
+    long: usize,
+}
+
+impl Checks {
+    fn is_held(&mut self, case: &[u8], cells: usize) -> bool {
+        if !self.seen.insert(case.to_vec()) {
+            return false;
+        }
+        let by_chance = self.vectors.named > 0;
+        if by_chance || cells <= LONG_CHECK {
+            return true;
+        }
+        self.long += 1;
+        self.long % 4 == 1
+    }
+}
+
 pub fn checks(seed: u64, count: usize) -> Vectors {
-    let mut vectors = Vectors::new(count);
+    let mut checks = Checks { vectors: Vectors::new(count), seen: HashSet::new(), long: 0 };
     let mut random = Random::new(seed);
     for (n, cells) in grid_cases::refused_grids() {
         let lengths = room_lengths(n);
         for numbers in [lengths[0], random.pick(&lengths)] {
             let rising: Placing = (0..numbers as i32).collect();
-            add_check(&mut vectors, n, &cells, &rising);
-            add_check(&mut vectors, n, &cells, &vec![5; numbers]);
+            add_check(&mut checks, n, &cells, &rising);
+            add_check(&mut checks, n, &cells, &vec![5; numbers]);
         }
     }
     for n in [0, 1, 2, 3, 20, 32] {
         let cells = Grid::any(n as usize).cells;
         for numbers in room_lengths(n) {
             let rising: Placing = (0..numbers as i32).map(|i| i - 20).collect();
-            add_check(&mut vectors, n, &cells, &rising);
+            add_check(&mut checks, n, &cells, &rising);
         }
     }
     for (start, end) in ends_of_one_event() {
-        add_check(&mut vectors, 1, &Grid::any(1).cells, &[start, end]);
+        add_check(&mut checks, 1, &Grid::any(1).cells, &[start, end]);
     }
-    add_extreme_pairs(&mut vectors);
-    vectors.end_of_named();
-    while !vectors.is_full() {
+    add_extreme_pairs(&mut checks);
+    checks.vectors.end_of_named();
+    while !checks.vectors.is_full() {
         let n = grid_cases::random_size(&mut random);
-        add_random_checks(&mut vectors, &mut random, n);
+        add_random_checks(&mut checks, &mut random, n);
     }
-    vectors
+    checks.vectors
 }
 
 const EXTREMES: [i32; 6] = [i32::MIN, i32::MIN + 1, -1, 0, i32::MAX - 1, i32::MAX];
@@ -347,7 +373,7 @@ fn ends_of_one_event() -> Vec<(i32, i32)> {
 }
 
 /// Two events with extreme ends, against each single relation.
-fn add_extreme_pairs(vectors: &mut Vectors) {
+fn add_extreme_pairs(checks: &mut Checks) {
     let rising = |ends: &(i32, i32)| ends.0 < ends.1;
     let events: Vec<(i32, i32)> = ends_of_one_event().into_iter().filter(rising).collect();
     for x in &events {
@@ -356,14 +382,14 @@ fn add_extreme_pairs(vectors: &mut Vectors) {
             let mut grid = Grid::any(2);
             for set in [mark(r), ANY ^ mark(r)] {
                 grid.put(0, 1, set);
-                add_check(vectors, 2, &grid.cells, &[x.0, x.1, y.0, y.1]);
+                add_check(checks, 2, &grid.cells, &[x.0, x.1, y.0, y.1]);
             }
         }
     }
 }
 
 /// A right placing, the same spread far apart, and both with one number changed.
-fn add_random_checks(vectors: &mut Vectors, random: &mut Random, n: usize) {
+fn add_random_checks(checks: &mut Checks, random: &mut Random, n: usize) {
     let span = random.pick(&[3, 6, 2 * n + 2]);
     let near = grid_cases::random_placing(random, n, span);
     let loose = random.pick(&[60, 20, 0]);
@@ -371,19 +397,19 @@ fn add_random_checks(vectors: &mut Vectors, random: &mut Random, n: usize) {
     let mut grid = grid_cases::grid_around(random, &near, loose, wide);
     let far = spread(random, &near);
     for placing in [&near, &far] {
-        add_check(vectors, n as u32, &grid.cells, placing);
+        add_check(checks, n as u32, &grid.cells, placing);
         if n > 0 {
             for _ in 0..3 {
                 let mut changed = placing.clone();
                 let place = random.below(2 * n);
                 changed[place] = changed_number(random, placing, place);
-                add_check(vectors, n as u32, &grid.cells, &changed);
+                add_check(checks, n as u32, &grid.cells, &changed);
             }
         }
     }
     if random.chance(20) {
         spoil(random, &mut grid.cells);
-        add_check(vectors, n as u32, &grid.cells, &near);
+        add_check(checks, n as u32, &grid.cells, &near);
     }
 }
 
@@ -413,23 +439,25 @@ fn spread(random: &mut Random, placing: &[i32]) -> Placing {
     placing.iter().map(|value| spread[value]).collect()
 }
 
-fn add_check(vectors: &mut Vectors, n: u32, cells: &[u16], placing: &[i32]) {
-    if !vectors.begin() {
+fn add_check(checks: &mut Checks, n: u32, cells: &[u16], placing: &[i32]) {
+    let mut case = Vec::new();
+    put_u32(&mut case, n);
+    put_u32(&mut case, cells.len() as u32);
+    put_u32(&mut case, placing.len() as u32);
+    put_u16s(&mut case, cells);
+    put_i32s(&mut case, placing);
+    if !checks.is_held(&case, cells.len()) || !checks.vectors.begin() {
         return;
     }
-    put_u32(&mut vectors.cases, n);
-    put_u32(&mut vectors.cases, cells.len() as u32);
-    put_u32(&mut vectors.cases, placing.len() as u32);
-    put_u16s(&mut vectors.cases, cells);
-    put_i32s(&mut vectors.cases, placing);
+    checks.vectors.cases.extend(case);
 
     let (kind, value) = match check(n, cells, placing) {
         Ok(true) => (0, 0),
         Ok(false) => (1, 0),
         Err(number) => (REFUSED, number),
     };
-    vectors.answers.push(kind);
-    put_u32(&mut vectors.answers, value);
+    checks.vectors.answers.push(kind);
+    put_u32(&mut checks.vectors.answers, value);
 }
 
 // Sheets
@@ -596,6 +624,21 @@ mod tests {
         assert_eq!((vectors.cases.len(), vectors.answers.len()), (4_000, 6_000));
         let vectors = checks(1, 1_000);
         assert_eq!(vectors.answers.len(), 5_000);
+    }
+
+    #[test]
+    fn no_check_comes_twice() {
+        let vectors = checks(1, 1_900);
+        let mut rest = &vectors.cases[..];
+        let mut seen = HashSet::new();
+        while !rest.is_empty() {
+            let u32_at = |at: usize| u32::from_le_bytes(rest[at..at + 4].try_into().unwrap());
+            let length = 12 + 2 * u32_at(4) + 4 * u32_at(8);
+            let (case, further) = rest.split_at(length as usize);
+            assert!(seen.insert(case));
+            rest = further;
+        }
+        assert_eq!(seen.len(), 1_900);
     }
 
     #[test]

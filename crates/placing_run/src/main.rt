@@ -1,7 +1,6 @@
 // Reads cases from standard input and writes the answers of `check_placing`. The file stdout has those of an independent
 // program, which compares the ends itself (second/, `check-vectors`). A case is n, how many cells and how many numbers, the
 // cells and the numbers; an answer a kind (0 yes, 1 no, 3 refused) and a refusal's number or 0.
-// The cases are those of seed 4 and count 2,300, without repeats; of those by name with more than 600 cells, every fourth.
 use placing::CheckAnswer;
 ghost use Prim.Native.Nat.{_+_, _*_, _≤_};
 ghost use lib.ListN.{length};

@@ -1,6 +1,5 @@
 // Reads sheets from standard input and writes what the sheet reader and the functions on names
-// answer. The file stdout has what an independent program works out: the two files are made by
-// `second sheet-vectors 20261115 2000` (second/README.md).
+// answer. The file stdout has what an independent program works out (second/, `sheet-vectors`).
 // A case: how many cells the room has, the event whose name is asked for, and the sheet in three
 // pieces, of which the second is repeated: the lengths of the three, how often, and their bytes.
 // An answer: 0 accepted or 3 refused, n or the refusal's number, the line, the checksum of the room,
