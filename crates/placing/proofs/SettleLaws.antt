@@ -14,19 +14,27 @@ use lib.Seq.{ext-getD}
 use lib.IntN.{ℤ, pos, natAbs}
 use lib.Signed.{ltZ, _≤ℤ_}
 use Rattle.relation.specs.Meaning.{Event}
+use Rattle.relation.specs.Composition.{converse}
 use Rattle.relation.specs.Sets.{member}
 use Rattle.relation.proofs.Tested.{T-of, of-T, and-left, and-right}
 use Rattle.relation.proofs.Rank.{Weak}
 use Rattle.relation.proofs.Order.{whole}
 use Rattle.relation.proofs.SetLaws.{member-mark}
+use Rattle.grid.specs.Cells.{cell}
 use Rattle.grid.specs.Meets.{Meets}
-use Rattle.placing.specs.Placing.{at, MeetsAt, NoGaps, Scenario}
+use Rattle.placing.specs.Placing.{at, MeetsAt, NoGaps}
 use Rattle.placing.specs.Checking.{someLate}
 use Rattle.placing.specs.Settling.{earlier, before, count, endsBefore, endNumber, gaplessEnd, listOf, placingOf, someMissed, settles, Settled}
 use Rattle.placing.proofs.CountLaws.{count-same, count-keeps}
 use Rattle.placing.proofs.GaplessLaws.{values-keep, values-onto, gapless-only}
 use Rattle.placing.proofs.EarlierLaws.{endOf, earlier-is, mark-cut}
 use Rattle.placing.proofs.PlacingLaws.{Gives, gives-list, Alike, alike-equal, late-alike, missed-alike, never-late, never-missed, list-meets}
+
+-- a scenario as a grid: each cell holds exactly one relation
+pub record Decided (n : ℕ) (g : List ℕ) : Type 0 where
+  pub single : (i j : ℕ) → i < n → j < n → (r : ℕ) × (r < 13) × (cell n g i j ≡ 2 ^ r)
+  pub diagonal : (i : ℕ) → i < n → cell n g i i ≡ 4096
+  pub mirrored : (i j : ℕ) → i < n → j < n → cell n g j i ≡ converse (cell n g i j)
 
 -- ---- the list of the numbers
 
@@ -144,7 +152,7 @@ gives-at n v P w p h = go (p % 2) refl
 
 -- ---- a placing of a scenario: its cells say which ends are before which
 
-module _ (n : ℕ) (g : List ℕ) (S : Scenario n g) (P : ℕ → Event) (M : Meets n g P) where
+module _ (n : ℕ) (g : List ℕ) (S : Decided n g) (P : ℕ → Event) (M : Meets n g P) where
   before-is : (p q : ℕ) → p < 2 * n → q < 2 * n → before n g p q ≡ ltZ (endAt P p) (endAt P q)
   unfolding before
   before-is p q hp hq =
@@ -190,12 +198,12 @@ module _ (n : ℕ) (g : List ℕ) (S : Scenario n g) (P : ℕ → Event) (M : Me
       ∙ never-missed n g (endAt P) P (gives-ends n P) M)
 
 -- a scenario that is not settled has no placing
-pub unsettled-none : (n : ℕ) (g : List ℕ) → Scenario n g → settles n g ≡ false → (P : ℕ → Event) → Meets n g P → ⊥
+pub unsettled-none : (n : ℕ) (g : List ℕ) → Decided n g → settles n g ≡ false → (P : ℕ → Event) → Meets n g P → ⊥
 unsettled-none n g S e P M = subst T (sym (placed-settles n g S P M) ∙ e) tt
 
 -- ---- the only placing without gaps
 
-module _ (n : ℕ) (g : List ℕ) (S : Scenario n g) (xs : List ℤ) (l : length xs ≡ 2 * n) (G : NoGaps xs) (M : MeetsAt n g xs) where
+module _ (n : ℕ) (g : List ℕ) (S : Decided n g) (xs : List ℤ) (l : length xs ≡ 2 * n) (G : NoGaps xs) (M : MeetsAt n g xs) where
   number : ℕ → ℕ
   number p = natAbs (at xs p)
 
@@ -218,7 +226,7 @@ module _ (n : ℕ) (g : List ℕ) (S : Scenario n g) (xs : List ℤ) (l : length
       (q .0, omega (arith, q .1, l), ap natAbs (q .2))
 
 -- two placings without gaps of one scenario are equal
-pub gapless-unique : (n : ℕ) (g : List ℕ) → Scenario n g → (xs ys : List ℤ) → length xs ≡ 2 * n → length ys ≡ 2 * n
+pub gapless-unique : (n : ℕ) (g : List ℕ) → Decided n g → (xs ys : List ℤ) → length xs ≡ 2 * n → length ys ≡ 2 * n
     → NoGaps xs → NoGaps ys → MeetsAt n g xs → MeetsAt n g ys → xs ≡ ys
 gapless-unique n g S xs ys lx ly Gx Gy Mx My =
     ext-getD (pos 0) xs ys (lx ∙ sym ly)
@@ -238,7 +246,7 @@ gapless-unique n g S xs ys lx ly Gx Gy Mx My =
         (number-down n g S xs lx Gx Mx) (number-down n g S ys ly Gy My)
 
 -- and it is the one worked out
-pub gapless-is : (n : ℕ) (g : List ℕ) → Scenario n g → (xs : List ℤ) → length xs ≡ 2 * n → NoGaps xs → MeetsAt n g xs → xs ≡ placingOf n g
+pub gapless-is : (n : ℕ) (g : List ℕ) → Decided n g → (xs : List ℤ) → length xs ≡ 2 * n → NoGaps xs → MeetsAt n g xs → xs ≡ placingOf n g
 gapless-is n g S xs l G M =
     gapless-unique n g S xs (placingOf n g) l (placing-length n g) G (placing-gapless n g) M
     (settled-meets n g (placed-settles n g S (M .placing) (M .meets)))

@@ -1,13 +1,11 @@
 -- Document 01, "The work" and "Looking for a placing": numbers that give a placing, and when they have no gaps. Assumes nothing.
 use mathlib.Core.Path.{_≡_}
 use mathlib.Core.List.{List}
-use Prim.Native.Nat.{ℕ, _+_, _*_, _^_, _<_}
+use Prim.Native.Nat.{ℕ, _+_, _*_, _<_}
 use lib.ListN.{length, getD}
 use lib.IntN.{ℤ, pos, negsuc}
 use lib.Signed.{_≤ℤ_}
 use Rattle.relation.specs.Meaning.{Event}
-use Rattle.relation.specs.Composition.{converse}
-use Rattle.grid.specs.Cells.{cell}
 use Rattle.grid.specs.Meets.{Meets}
 
 -- number p of a list
@@ -28,12 +26,6 @@ pub record MeetsAt (n : ℕ) (g : List ℕ) (xs : List ℤ) : Type 0 where
 pub record NoGaps (xs : List ℤ) : Type 0 where
   pub counts : (p : ℕ) → p < length xs → (k : ℕ) × (at xs p ≡ pos k)
   pub down : (p k : ℕ) → p < length xs → pos k ≤ℤ at xs p → (q : ℕ) × (q < length xs) × (at xs q ≡ pos k)
-
--- one relation for each pair: the laws of settling speak of it, and no statement cites it
-pub record Scenario (n : ℕ) (g : List ℕ) : Type 0 where
-  pub single : (i j : ℕ) → i < n → j < n → (r : ℕ) × (r < 13) × (cell n g i j ≡ 2 ^ r)
-  pub diagonal : (i : ℕ) → i < n → cell n g i i ≡ 4096
-  pub mirrored : (i j : ℕ) → i < n → j < n → cell n g j i ≡ converse (cell n g i j)
 
 -- a number that is not negative; else 0
 abbrev pub naturalOf : ℤ → ℕ

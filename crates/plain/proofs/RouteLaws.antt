@@ -15,7 +15,8 @@ use Rattle.grid.specs.Steps.{RowsAt}
 use Rattle.grid.proofs.CellLaws.{cell-both-other}
 use Rattle.theory.specs.Fair.{Fair}
 use Rattle.theory.specs.Allen.{allen}
-use Rattle.theory.specs.Sweeps.{Distinct, Progress, DeadEnd, Shrinks, none, value}
+use Rattle.theory.specs.Quick.{cutTo}
+use Rattle.theory.specs.Sweeps.{Distinct, Progress, DeadEnd, Shrinks, none}
 use Rattle.theory.proofs.AllenLaws.{lawful, sized, eq-lawful}
 use Rattle.theory.proofs.PlainLaws.{progress-none, progress-one, progress-then}
 use Rattle.plain.specs.Routes.{OverTo, EventTo, AllTo, Still, StillUntil, Changes, Finds, Pass}
@@ -52,7 +53,7 @@ module _ (n : ℕ) (g g₁ g₂ : List ℕ) (c d : Bool) (F : Fair allen n g) wh
       into x y z u = go x y z u (decLt z k)
 
 -- routes that leave their cell as it is, or no routes at all
-pub nothing : (n : ℕ) (S : ℕ → ℕ → ℕ → Type 0) (g : List ℕ) → Fair allen n g → ((a m b : ℕ) → S a m b → value allen n g a m b ≡ cell n g a b) → Progress allen ones n S g g false
+pub nothing : (n : ℕ) (S : ℕ → ℕ → ℕ → Type 0) (g : List ℕ) → Fair allen n g → ((a m b : ℕ) → S a m b → cutTo allen (cell n g) a m b ≡ cell n g a b) → Progress allen ones n S g g false
 nothing n S g F h = progress-none allen lawful ones sized n (F .fine .few) S g h
 
 -- a cut after a part of a sweep
@@ -144,7 +145,7 @@ module _ (n m b a set : ℕ) (g : List ℕ) (F : Fair allen n g) (k : Changes n 
         }
 
 -- a sweep without a change: no route changes a cell
-pub all-still : (n : ℕ) (g g' : List ℕ) (c : Bool) → c ≡ false → Progress allen ones n (AllTo n n) g g' c → (a m b : ℕ) → a < b → Distinct n a b m → value allen n g' a m b ≡ cell n g' a b
+pub all-still : (n : ℕ) (g g' : List ℕ) (c : Bool) → c ≡ false → Progress allen ones n (AllTo n n) g g' c → (a m b : ℕ) → a < b → Distinct n a b m → cutTo allen (cell n g') a m b ≡ cell n g' a b
 all-still n g g' c e p a m b h d =
     let s = p .still e in
-    subst (λ (x : List ℕ). value allen n x a m b ≡ cell n x a b) (sym (s .0)) (s .1 a m b (h, d .hb, d))
+    subst (λ (x : List ℕ). cutTo allen (cell n x) a m b ≡ cell n x a b) (sym (s .0)) (s .1 a m b (h, d .hb, d))

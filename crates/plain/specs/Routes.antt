@@ -8,7 +8,8 @@ use lib.Count.{ones}
 use lib.ListN.{replicate}
 use Rattle.grid.specs.Cells.{cell, someEmpty}
 use Rattle.theory.specs.Allen.{allen}
-use Rattle.theory.specs.Sweeps.{Distinct, Cuts, DeadEnd, Progress, value}
+use Rattle.theory.specs.Quick.{cutTo}
+use Rattle.theory.specs.Sweeps.{Distinct, Cuts, DeadEnd, Progress}
 use Rattle.plain.specs.declared.Swept.{Swept}
 use Rattle.plain.specs.declared.Swept.the-variants.{Dead, Moved}
 use Rattle.plain.specs.declared.PlainAnswer.{PlainAnswer}
@@ -28,7 +29,7 @@ AllTo n k x y z = (x < z) × (z < k) × Distinct n x z y
 
 -- the route from a over m to b leaves its cell as it is
 abbrev pub Still : ℕ → ℕ → ℕ → List ℕ → ℕ → Type 0
-Still n m b g a = value allen n g a m b ≡ cell n g a b
+Still n m b g a = cutTo allen (cell n g) a m b ≡ cell n g a b
 
 -- so does each from an event from k on and below r
 pub record StillUntil (n m b : ℕ) (g : List ℕ) (k r : ℕ) : Type 0 where
@@ -38,7 +39,7 @@ pub record StillUntil (n m b : ℕ) (g : List ℕ) (k r : ℕ) : Type 0 where
 
 -- the route from a over m to b changes its cell: it leaves this set
 pub record Changes (n m b : ℕ) (g : List ℕ) (a set : ℕ) : Type 0 where
-  pub left : set ≡ value allen n g a m b
+  pub left : set ≡ cutTo allen (cell n g) a m b
   pub less : set ≡ cell n g a b → ⊥
 
 -- the route from r is the first from k on that changes its cell, or r is b
@@ -55,5 +56,5 @@ Pass n S g (Moved c) g' = Progress allen ones n S g g' c
 abbrev pub Sweeps : ℕ → List ℕ → PlainAnswer → List ℕ → Type 0
 Sweeps n g Contradiction g' = ((someEmpty g ≡ true) ⊎ DeadEnd allen n g) × (g' ≡ replicate (n * n) 0)
 Sweeps n g Closed g' =
-    (someEmpty g ≡ false) × Cuts allen n g g' × ((a m b : ℕ) → a < b → Distinct n a b m → value allen n g' a m b ≡ cell n g' a b)
+    (someEmpty g ≡ false) × Cuts allen n g g' × ((a m b : ℕ) → a < b → Distinct n a b m → cutTo allen (cell n g') a m b ≡ cell n g' a b)
 Sweeps n g (Refused r) g' = ⊥

@@ -19,8 +19,8 @@ use Rattle.grid.proofs.CellLaws.{upTo-at}
 use Rattle.theory.specs.Search.{Pair, pairsFrom, All}
 use Rattle.theory.proofs.FirstLaws.{no-later-both}
 use Rattle.theory.proofs.PlacedLaws.{member-self, uses-meets}
-use Rattle.placing.specs.Placing.{MeetsAt, Scenario}
-use Rattle.placing.proofs.SettleLaws.{gapless-unique}
+use Rattle.placing.specs.Placing.{MeetsAt}
+use Rattle.placing.proofs.SettleLaws.{Decided, gapless-unique}
 use Rattle.search.specs.Answers.{FirstPlacing}
 use Rattle.search.proofs.SearchRight.{pairs-have}
 
@@ -39,8 +39,8 @@ module _ (n : ℕ) (P : ℕ → Event) where
   unfolding scenarioGrid cell
   grid-at i j hi hj = upTo-at (n * n) (λ p. 2 ^ relOf (P (p / n)) (P (p % n))) (i * n + j) (digits-lt hi hj) ∙ rw (digits-div i hj, digits-mod i hj)
 
-  is-scenario : Scenario n scenarioGrid
-  is-scenario =
+  is-decided : Decided n scenarioGrid
+  is-decided =
       record {
         single = λ i j hi hj. (relOf (P i) (P j), relOf-lt (P i) (P j), grid-at i j hi hj);
         diagonal = λ i hi. grid-at i i hi hi ∙ ap (λ (r : ℕ). 2 ^ r) (relOf-self (P i));
@@ -83,6 +83,6 @@ first-unique n g xs ys F G =
     no-later-both (pairsFrom n 0 1) σ τ
     (F .first P Q σ τ (F .meets .places) (λ p. holds-found (P (p .0)) (P (p .1))) (G .meets .meets) (λ p. holds-found (Q (p .0)) (Q (p .1))))
     (G .first Q P τ σ (G .meets .places) (λ p. holds-found (Q (p .0)) (Q (p .1))) (F .meets .meets) (λ p. holds-found (P (p .0)) (P (p .1)))) in
-    gapless-unique n (scenarioGrid n P) (is-scenario n P) xs ys (F .long) (G .long) (F .no-gaps) (G .no-gaps)
+    gapless-unique n (scenarioGrid n P) (is-decided n P) xs ys (F .long) (G .long) (F .no-gaps) (G .no-gaps)
     (alike-meets n P xs g (F .meets) (λ i j hi hj. refl))
     (alike-meets n P ys g (G .meets) (same-relations n Q P (λ i j l h. sym (all-among (λ (p : Pair). σ p ≡ τ p) (pairs-have n i j l h) same))))

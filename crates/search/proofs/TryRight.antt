@@ -41,9 +41,8 @@ use Rattle.theory.proofs.TakeLaws.{LeavesLong, run-long}
 use Rattle.theory.proofs.TryLaws.{cut-inside, resting, try-right}
 use Rattle.theory.proofs.PlacedLaws.{member-only, mark-inside, inside-mark, only-mark, Uses, meets-uses, uses-meets, uses-more, closing-uses, closes-some}
 use Rattle.theory.proofs.SearchLaws.{Searchable}
-use Rattle.placing.specs.Placing.{Scenario}
 use Rattle.placing.specs.Settling.{settles}
-use Rattle.placing.proofs.SettleLaws.{settled-meets, unsettled-none}
+use Rattle.placing.proofs.SettleLaws.{Decided, settled-meets, unsettled-none}
 use Rattle.search.specs.Rule.{thereAt, tryAt}
 use Rattle.search.specs.Steps.{Searched}
 
@@ -257,8 +256,8 @@ module _ (n : ℕ) (g : List ℕ) (R : Ready n [] g) where
   single : (i j : ℕ) → i < j → j < n → (r : ℕ) × (r < 13) × (cell n g i j ≡ 2 ^ r)
   single i j h k = ⊎-elim (λ w. absurd (omega (arith, among-some w))) (λ w. w) (R .decided (i, j) (h, k))
 
-  pub ready-scenario : Scenario n g
-  ready-scenario =
+  pub ready-decided : Decided n g
+  ready-decided =
       record {
         single = λ i j hi hj. each i j hi hj (decLt i j) (decLt j i);
         diagonal = R .whole .fair .fine .diagonal;
@@ -292,5 +291,5 @@ searchable n =
       inside = λ P p ps r g g' ok lt is R q u. uses-more n P (cell n g') (cell n g) (try-inside n p r g ok lt is (R .whole) g' q) u;
       chosen = λ P p ps r g g' ok lt is R q u. try-relation n p r g ok lt is (R .whole) P g' q u;
       fit = λ g R e. let m = settled-meets n g e in (m .placing, meets-uses n g (m .placing) (m .meets));
-      unfit = λ g R e P u. unsettled-none n g (ready-scenario n g R) e P (uses-meets n g P u);
+      unfit = λ g R e P u. unsettled-none n g (ready-decided n g R) e P (uses-meets n g P u);
     }

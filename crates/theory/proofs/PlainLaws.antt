@@ -14,7 +14,8 @@ use Rattle.theory.specs.Calculus.{Calculus}
 use Rattle.theory.specs.Closing.{Closing}
 use Rattle.theory.specs.Fair.{Fair}
 use Rattle.theory.specs.Line.{IsPair, pairOf, allPairs}
-use Rattle.theory.specs.Sweeps.{Distinct, value, Shrinks, Cuts, none, more, DeadEnd, weight, Progress}
+use Rattle.theory.specs.Quick.{cutTo}
+use Rattle.theory.specs.Sweeps.{Distinct, Shrinks, Cuts, none, more, DeadEnd, weight, Progress}
 use Rattle.theory.proofs.ClosingLaws.{IsCut, sub-meet-l, reached-closed, mirror-cut}
 use Rattle.theory.proofs.KeepLaws.{Good, put-cut, is-cut, good-shrank, good-dead}
 use Rattle.theory.proofs.FairLaws.{fair-good, good-fair}
@@ -45,7 +46,7 @@ module _ (A : Calculus) (L : Lawful A) (size : ℕ → ℕ) (Z : Sized A size) (
       b = s .b
 
       h : List ℕ
-      h = putBoth (A .conv) n g (s .a) (s .b) (value A n g (s .a) (s .m) (s .b))
+      h = putBoth (A .conv) n g (s .a) (s .b) (cutTo A (cell n g) (s .a) (s .m) (s .b))
 
       c : IsCut A n (cell n g) (cell n h) (s .a) (s .m) (s .b)
       c = put-cut A n g fits (s .a) (s .m) (s .b) (s .route .ha) (s .route .hb) (s .route .ab)
@@ -59,7 +60,7 @@ module _ (A : Calculus) (L : Lawful A) (size : ℕ → ℕ) (Z : Sized A size) (
       here : size (cell n h (pairOf a b / 32) (pairOf a b % 32)) + 1 ≤ size (cell n g (pairOf a b / 32) (pairOf a b % 32))
       here =
           rw (first, second, c .here)
-          (omega (arith, Z .less (value A n g (s .a) (s .m) (s .b)) (cell n g (s .a) (s .b)) (sub-meet-l A L _ _) (s .less)))
+          (omega (arith, Z .less (cutTo A (cell n g) (s .a) (s .m) (s .b)) (cell n g (s .a) (s .b)) (sub-meet-l A L _ _) (s .less)))
 
       elsewhere : (p : ℕ) → IsPair n p → (p ≡ pairOf a b → ⊥) → size (cell n h (p / 32) (p % 32)) ≤ size (cell n g (p / 32) (p % 32))
       elsewhere p ok np =
@@ -71,13 +72,13 @@ module _ (A : Calculus) (L : Lawful A) (size : ℕ → ℕ) (Z : Sized A size) (
   cuts-fit : (g : List ℕ) {g' : List ℕ} → n * n ≤ length g → Cuts A n g g' → n * n ≤ length g'
   cuts-fit g fits none = fits
   cuts-fit g fits (more {g₁} p s) =
-      rw (s .is) (omega (arith, putBoth-length (A .conv) n g₁ (s .a) (s .b) (value A n g₁ (s .a) (s .m) (s .b)), cuts-fit g fits p))
+      rw (s .is) (omega (arith, putBoth-length (A .conv) n g₁ (s .a) (s .b) (cutTo A (cell n g₁) (s .a) (s .m) (s .b)), cuts-fit g fits p))
 
   cuts-le : (g : List ℕ) {g' : List ℕ} → n * n ≤ length g → Cuts A n g g' → weight size n g' ≤ weight size n g
   cuts-le g fits none = le-refl _
   cuts-le g {g'} fits (more {g₁} p s) = omega (arith, shrinks-less g₁ g' (cuts-fit g fits p) s, cuts-le g fits p)
 
-  pub progress-none : (S : ℕ → ℕ → ℕ → Type 0) (g : List ℕ) → ((a m b : ℕ) → S a m b → value A n g a m b ≡ cell n g a b) → Progress A size n S g g false
+  pub progress-none : (S : ℕ → ℕ → ℕ → Type 0) (g : List ℕ) → ((a m b : ℕ) → S a m b → cutTo A (cell n g) a m b ≡ cell n g a b) → Progress A size n S g g false
   progress-none S g h = record { cuts = none; moved = λ e. let z : _≡_ {A = ℕ} 0 1 = cc in absurd (omega arith); still = λ e. (refl, h) }
 
   pub progress-one : (S : ℕ → ℕ → ℕ → Type 0) (g g' : List ℕ) → n * n ≤ length g → Shrinks A n g g' → Progress A size n S g g' true
@@ -106,7 +107,7 @@ module _ (A : Calculus) (L : Lawful A) (size : ℕ → ℕ) (Z : Sized A size) (
             let t = q .still (w .1) in (
               t .0 ∙ s .0,
               λ a m b u.
-                  ⊎-elim (λ h. s .1 a m b h) (λ h. subst (λ (x : List ℕ). value A n x a m b ≡ cell n x a b) (s .0) (t .1 a m b h)) (into a m b u),
+                  ⊎-elim (λ h. s .1 a m b h) (λ h. subst (λ (x : List ℕ). cutTo A (cell n x) a m b ≡ cell n x a b) (s .0) (t .1 a m b h)) (into a m b u),
             );
       }
 
@@ -128,13 +129,13 @@ module _ (A : Calculus) (L : Lawful A) (n : ℕ) (g₀ : List ℕ) where
   dead-closing G d = good-dead A L n g₀ (d .at) (cuts-good g₀ G (d .cuts)) (d .a) (d .m) (d .b) (d .route .ha) (d .route .hc) (d .route .hb) (d .route .ab) (d .empty)
 
   -- a sweep over all routes of cells above the diagonal that changes nothing: closed
-  pub still-closed : EqLawful A → (g : List ℕ) → Good A n g₀ g → ((a m b : ℕ) → a < b → Distinct n a b m → value A n g a m b ≡ cell n g a b) → Closing A n (cell n g₀) (cell n g)
+  pub still-closed : EqLawful A → (g : List ℕ) → Good A n g₀ g → ((a m b : ℕ) → a < b → Distinct n a b m → cutTo A (cell n g) a m b ≡ cell n g a b) → Closing A n (cell n g₀) (cell n g)
   still-closed E g G all = reached-closed A L n (cell n g₀) (cell n g) (G .reached) (closed-apart A E n g₀ g G (λ i j k d. apart i j k d (decLt i j)))
     where
       back : (a m b : ℕ) → a < b → Distinct n a b m → Via A n g b a m
       back a m b h d =
           cc (
-            mirror-cut A L n (cell n g) (cell n (putBoth (A .conv) n g a b (value A n g a m b))) a m b (d .ha) (d .hc) (d .hb) (G .reached .mirrored)
+            mirror-cut A L n (cell n g) (cell n (putBoth (A .conv) n g a b (cutTo A (cell n g) a m b))) a m b (d .ha) (d .hc) (d .hb) (G .reached .mirrored)
                 (is-cut A L n g₀ g G a m b (d .ha) (d .hc) (d .hb) (d .ab)),
             all a m b h d,
             G .reached .mirrored a b (d .ha) (d .hb),

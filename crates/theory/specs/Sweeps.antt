@@ -17,10 +17,6 @@ pub record Distinct (n a b c : ℕ) : Type 0 where
   pub bc : b ≡ c → ⊥
   pub ac : a ≡ c → ⊥
 
--- the set that the route over m leaves in (a, b)
-abbrev pub value : Calculus → ℕ → List ℕ → ℕ → ℕ → ℕ → ℕ
-value A n g a m b = cutTo A (cell n g) a m b
-
 -- one cut of a cell (a, b), a < b, that shrinks it and leaves something
 pub record Shrinks (A : Calculus) (n : ℕ) (g g' : List ℕ) : Type 0 where
   pub a : ℕ
@@ -28,9 +24,9 @@ pub record Shrinks (A : Calculus) (n : ℕ) (g g' : List ℕ) : Type 0 where
   pub b : ℕ
   pub low : a < b
   pub route : Distinct n a b m
-  pub less : value A n g a m b ≡ cell n g a b → ⊥
-  pub some : value A n g a m b ≡ 0 → ⊥
-  pub is : g' ≡ putBoth (A .conv) n g a b (value A n g a m b)
+  pub less : cutTo A (cell n g) a m b ≡ cell n g a b → ⊥
+  pub some : cutTo A (cell n g) a m b ≡ 0 → ⊥
+  pub is : g' ≡ putBoth (A .conv) n g a b (cutTo A (cell n g) a m b)
 
 pub data Cuts (A : Calculus) (n : ℕ) (g : List ℕ) : List ℕ → Type 0 where
   none : Cuts A n g g
@@ -44,7 +40,7 @@ pub record DeadEnd (A : Calculus) (n : ℕ) (g : List ℕ) : Type 0 where
   pub m : ℕ
   pub b : ℕ
   pub route : Distinct n a b m
-  pub empty : value A n at a m b ≡ 0
+  pub empty : cutTo A (cell n at) a m b ≡ 0
 
 -- the sum of f over a list
 unfoldable pub sum : (ℕ → ℕ) → List ℕ → ℕ
@@ -59,4 +55,4 @@ weight size n g = sum (λ p. size (cell n g (p / 32) (p % 32))) (allPairs n)
 pub record Progress (A : Calculus) (size : ℕ → ℕ) (n : ℕ) (S : ℕ → ℕ → ℕ → Type 0) (g g' : List ℕ) (c : Bool) : Type 0 where
   pub cuts : Cuts A n g g'
   pub moved : c ≡ true → weight size n g' < weight size n g
-  pub still : c ≡ false → (g' ≡ g) × ((a m b : ℕ) → S a m b → value A n g a m b ≡ cell n g a b)
+  pub still : c ≡ false → (g' ≡ g) × ((a m b : ℕ) → S a m b → cutTo A (cell n g) a m b ≡ cell n g a b)
