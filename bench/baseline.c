@@ -448,51 +448,50 @@ u64 c_read_sheet(const u8 *s, u64 bytes, u16 *room, u64 cells) {
 
 // ---- the text of place
 
-static u64 put_text(u8 *out, u64 at, struct part text) {
-    for (u64 k = 0; k < text.len; k++) out[at + k] = text.at[k];
-    return at + text.len;
-}
+// A lent room: the text is put in as far as it reaches.
+struct out { u8 *at; u64 len; };
 
-// A space before a number, and the number.
-static u64 put_number(u8 *out, u64 at, u32 value) {
-    u8 digits[10];
-    u64 from = 10;
-    do digits[--from] = '0' + value % 10; while (value /= 10);
-    out[at] = ' ';
-    return put_text(out, at + 1, (struct part){digits + from, 10 - from});
-}
-
-static u64 put_line_end(u8 *out, u64 at) {
-    out[at] = '\n';
+static u64 put_byte(struct out out, u64 at, u8 byte) {
+    if (at < out.len) out.at[at] = byte;
     return at + 1;
 }
 
-static u64 put_refusal(u8 *out, u64 said) {
-    u64 at = put_text(out, 0, (struct part){(const u8 *)"refused", 7});
-    at = put_number(out, at, said >> 32);
-    return put_line_end(out, put_number(out, at, (u32)said));
+static u64 put_text(struct out out, u64 at, struct part text) {
+    for (u64 k = 0; k < text.len; k++) at = put_byte(out, at, text.at[k]);
+    return at;
 }
 
-static u64 put_found(u8 *out, const struct sheet *t, u64 found, const int *room) {
+// A space before a number, and the number.
+static u64 put_number(struct out out, u64 at, u32 value) {
+    u8 digits[10];
+    u64 from = 10;
+    do digits[--from] = '0' + value % 10; while (value /= 10);
+    return put_text(out, put_byte(out, at, ' '), (struct part){digits + from, 10 - from});
+}
+
+static u64 put_refusal(struct out out, u64 said) {
+    u64 at = put_text(out, 0, (struct part){(const u8 *)"refused", 7});
+    at = put_number(out, at, said >> 32);
+    return put_byte(out, put_number(out, at, (u32)said), '\n');
+}
+
+static u64 put_found(struct out out, const struct sheet *t, u64 found, const int *room) {
     static const struct { const char *text; u64 len; } ends[3] = {{"placed", 6}, {"none", 4}, {"gave-up", 7}};
     u64 end = found >> 32, at = put_text(out, 0, (struct part){(const u8 *)ends[end].text, ends[end].len});
-    at = put_line_end(out, put_number(out, at, (u32)found));
+    at = put_byte(out, put_number(out, at, (u32)found), '\n');
     if (end != DONE) return at;
     for (u64 i = 0; i < t->n; i++) {
         at = put_text(out, at, t->name[i]);
         at = put_number(out, at, room[2 * i]);
-        at = put_line_end(out, put_number(out, at, room[2 * i + 1]));
+        at = put_byte(out, put_number(out, at, room[2 * i + 1]), '\n');
     }
     return at;
 }
 
-// The text, and zeros after it.
-u64 c_place(const u8 *s, u64 bytes, u8 *out, u64 most) {
+u64 c_place(const u8 *s, u64 bytes, u8 *lent, u64 most) {
     struct sheet t;
+    struct out out = {lent, most};
     int room[2 * MOST];
-    if (most != PRINTED) return 0;
     u64 said = parse(s, bytes, &t);
-    u64 len = said >> 32 ? put_refusal(out, said) : put_found(out, &t, find(t.grid, t.n, ALLOWANCE, room), room);
-    for (u64 p = len; p < PRINTED; p++) out[p] = 0;
-    return len;
+    return said >> 32 ? put_refusal(out, said) : put_found(out, &t, find(t.grid, t.n, ALLOWANCE, room), room);
 }

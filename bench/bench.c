@@ -392,12 +392,13 @@ static void same_read(const char *what, int k, const struct text *t, u64 cells) 
     if (said[0] != said[1] || !same(room[0], room[1], 2 * cells)) differ(what, k);
 }
 
-static void same_place(const char *what, int k, const struct text *t) {
+// The room is filled first, and compared to its end also where fewer bytes of it are lent.
+static void same_place(const char *what, int k, const struct text *t, u64 most) {
     u8 room[PROGRAMS][PRINTED];
     u64 said[PROGRAMS];
     for (int who = 0; who < PROGRAMS; who++) {
         for (int p = 0; p < PRINTED; p++) room[who][p] = 200;
-        said[who] = program[who]->place(t->at, t->bytes, room[who], PRINTED);
+        said[who] = program[who]->place(t->at, t->bytes, room[who], most);
     }
     if (said[0] != said[1] || !same(room[0], room[1], PRINTED)) differ(what, k);
 }
@@ -435,7 +436,7 @@ static void agree_on_sheets(int count) {
         for (u32 more = below(3); more; more--) t.at[below(t.bytes)] = other[below(22)];
         if (!below(10)) t.bytes = below(t.bytes);
         same_read("reading a small sheet", k, &t, below(20) ? CELLS : CELLS + 1);
-        same_place("place on a small sheet", k, &t);
+        same_place("place on a small sheet", k, &t, k % 4 ? PRINTED : k / 4 % 64);
     }
     t.bytes = SHEET + 1;
     same_read("reading a sheet of 65,537 bytes", 0, &t, CELLS);
@@ -647,7 +648,7 @@ static void measure_place(void) {
     make_placed_grids(MOST, SHEETS);
     for (int k = 0; k < SHEETS; k++) {
         make_sheet_of(&sheets[k], grid(k), MOST);
-        same_place("place", k, &sheets[k]);
+        same_place("place", k, &sheets[k], PRINTED);
     }
     printf("place whole, sheets of 32 events as in planning: ");
     print_ratio(timed(place_round));

@@ -14,5 +14,5 @@ typedef u64 quick_close_function(u16 *g, u64 cells, u64 n, u64 limit);
 typedef u64 plain_close_function(u16 *g, u64 cells, u64 n);
 typedef u64 find_placing_function(const u16 *g, u64 cells, u64 n, u32 allowance, int *room, u64 numbers);
 typedef u64 read_sheet_function(const u8 *s, u64 bytes, u16 *room, u64 cells);
-// The length of the text; the room is for 2,048 bytes.
+// The length of the whole text, which is put into the room as far as it reaches. A room for 2,048 bytes has it whole.
 typedef u64 place_function(const u8 *s, u64 bytes, u8 *room, u64 most);

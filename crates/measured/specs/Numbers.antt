@@ -1,10 +1,6 @@
 -- The answers of the public functions as numbers, for a caller in C. Assumes nothing.
 use mathlib.Core.Path.{_≡_}
-use mathlib.Core.Bool.{Bool, cond}
-use mathlib.Core.List.{List, _++_}
-use Prim.Native.Nat.{ℕ, _+_, _*_, _-_, _%_}
-use lib.Dec.{eqb}
-use lib.ListN.{length, replicate}
+use Prim.Native.Nat.{ℕ, _+_, _*_, _%_}
 use Rattle.refusal.specs.Numbers.{numberOf}
 use Rattle.refusal.specs.declared.Refusal.{Refusal}
 use Rattle.relation.specs.declared.SetAnswer.{SetAnswer}
@@ -17,7 +13,6 @@ use Rattle.search.specs.declared.PlaceAnswer.{PlaceAnswer}
 use Rattle.search.specs.declared.PlaceAnswer.the-variants as Search
 use Rattle.sheet.specs.declared.SheetAnswer.{SheetAnswer}
 use Rattle.sheet.specs.declared.SheetAnswer.the-variants as Sheet
-use Rattle.report.specs.Report.{placeText, mostPrinted}
 
 -- r is the number of an answer that the function's own statement allows
 abbrev pub Numbered : {A : Type 0} → (A → Type 0) → (A → ℕ) → ℕ → Type 0
@@ -55,12 +50,3 @@ placeNumber (Search.Refused why) = refused why
 abbrev pub sheetNumber : SheetAnswer → ℕ
 sheetNumber (Sheet.Events n) = coded 0 n
 sheetNumber (Sheet.Refused why line) = coded (numberOf why) line
-
--- a lent room has the length of what `place` hands back
-abbrev pub fits : List ℕ → Bool
-fits room = eqb (length room) mostPrinted
-
--- what `place` prints for the sheet s, with zeros after it to fill a room of the right length: r is its length; another room stays as it was
-pub record Shows (s room : List ℕ) (r : ℕ) (room' : List ℕ) : Type 0 where
-  pub len : r ≡ cond (fits room) (length (placeText 5000 s)) 0
-  pub room-after : room' ≡ cond (fits room) (placeText 5000 s ++ replicate (mostPrinted - length (placeText 5000 s)) 0) room

@@ -1,12 +1,12 @@
 // The public functions under C's calling convention, for the benchmark: each answer as one number.
 ghost use mathlib.Core.Path.{_≡_};
-ghost use lib.ListN.{length};
 ghost use Rattle.relation.specs.Answers.{saidOf, composeSaid};
 ghost use Rattle.quick.specs.Answers.{QuickCloses};
 ghost use Rattle.plain.specs.Answers.{PlainCloses};
 ghost use Rattle.search.specs.Answers.{Looks};
 ghost use Rattle.sheet.specs.Answers.{Reads};
-ghost use Rattle.measured.specs.Numbers.{coded, refused, Numbered, setNumber, quickNumber, plainNumber, placeNumber, sheetNumber, Shows};
+ghost use Rattle.report.specs.Report.{placeText, Prints};
+ghost use Rattle.measured.specs.Numbers.{coded, refused, Numbered, setNumber, quickNumber, plainNumber, placeNumber, sheetNumber};
 use plain::PlainAnswer;
 use quick::QuickAnswer;
 use relation::SetAnswer;
@@ -117,27 +117,10 @@ pub extern "C" fn proved_read_sheet(s: &[u8], room: &mut [u16]) -> u64
     sheet_number(answer)
 }
 
-fn copy(to: &mut [u8], from: &[u8])
-    requires { ⌜ length (now to) ≡ length (now from) ⌝ }
-    ensures { λ _. ⌜ now (to .exit) ≡ now (from .entry) ⌝ }
-{
-    let mut k = 0;
-    while k < from.len() {
-        to[k] = from[k];
-        k += 1;
-    }
-}
-
-// What `place` prints, in a room of 2,048 bytes: its length. Another room stays as it was.
+// What `place` prints, with the allowance of the program.
 #[no_mangle]
 pub extern "C" fn proved_place(s: &[u8], room: &mut [u8]) -> usize
-    ensures { λ r. ⌜ Shows (now (s .entry)) (now (room .entry)) r (now (room .exit)) ⌝ }
+    ensures { λ r. ⌜ Prints (placeText 5000 (now (s .entry))) (now (room .entry)) r (now (room .exit)) ⌝ }
 {
-    if room.len() != report::PRINTED {
-        return 0;
-    }
-    let printed = report::place_report(s, report::ALLOWANCE);
-    let bytes = printed.bytes;
-    copy(room, &bytes);
-    printed.len
+    report::place_report(s, report::ALLOWANCE, room)
 }

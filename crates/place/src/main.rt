@@ -3,6 +3,7 @@
 use desk::ROOM;
 use libc::STDERR_FILENO;
 use libc::STDOUT_FILENO;
+use report::PRINTED;
 
 fn main() {
     let mut sheet = [0u8; ROOM];
@@ -11,10 +12,9 @@ fn main() {
         io::write_all(STDERR_FILENO, b"place: the sheet could not be read\n");
         return;
     }
-    let printed = report::place_report(&sheet[..n], report::ALLOWANCE);
-    let bytes = printed.bytes;
-    let len = printed.len;
-    if !io::write_all(STDOUT_FILENO, &bytes[..len]) {
+    let mut room = [0u8; PRINTED];
+    let len = report::place_report(&sheet[..n], report::ALLOWANCE, &mut room);
+    if !io::write_all(STDOUT_FILENO, &room[..len]) {
         io::write_all(STDERR_FILENO, b"place: the answer could not be written\n");
     }
 }

@@ -22,11 +22,11 @@ use Rattle.relation.proofs.Order.{whole}
 use Rattle.relation.proofs.SetLaws.{member-mark}
 use Rattle.grid.specs.Cells.{cell}
 use Rattle.grid.specs.Meets.{Meets}
-use Rattle.placing.specs.Placing.{at, MeetsAt, NoGaps}
+use Rattle.placing.specs.Placing.{at, naturalOf, MeetsAt, NoGaps}
 use Rattle.placing.specs.Checking.{someLate}
 use Rattle.placing.specs.Settling.{earlier, before, count, endsBefore, endNumber, gaplessEnd, listOf, placingOf, someMissed, settles, Settled}
-use Rattle.placing.proofs.CountLaws.{count-same, count-keeps}
-use Rattle.placing.proofs.GaplessLaws.{values-keep, values-onto, gapless-only}
+use Rattle.placing.proofs.CountLaws.{count-same, count-keeps, count-le}
+use Rattle.placing.proofs.GaplessLaws.{values-le, values-keep, values-onto, gapless-only}
 use Rattle.placing.proofs.EarlierLaws.{endOf, earlier-is, mark-cut}
 use Rattle.placing.proofs.PlacingLaws.{Gives, gives-list, Alike, alike-equal, late-alike, missed-alike, never-late, never-missed, list-meets}
 
@@ -62,6 +62,13 @@ placing-length n g = listOf-length (2 * n) (gaplessEnd n g)
 pub placing-at : (n : ℕ) (g : List ℕ) (p : ℕ) → p < 2 * n → at (placingOf n g) p ≡ pos (endNumber n g p)
 unfolding placingOf
 placing-at n g p h = listOf-at (2 * n) (gaplessEnd n g) p h
+
+-- no number is above that of the ends
+pub placing-few : (n : ℕ) (g : List ℕ) (p : ℕ) → p < 2 * n → naturalOf (at (placingOf n g) p) ≤ 2 * n
+unfolding endNumber endsBefore
+placing-few n g p h =
+    let e : naturalOf (at (placingOf n g) p) ≡ endNumber n g p = ap naturalOf (placing-at n g p h) in
+    omega (arith, e, values-le (endsBefore n g) (2 * n) (endsBefore n g p), count-le (λ q. before n g q p) (2 * n))
 
 -- the statement determines the answer and the room
 pub settled-unique : (n : ℕ) (g : List ℕ) (room a b : List ℤ) (r s : Bool) → Settled n g room a r → Settled n g room b s → (r ≡ s) × (a ≡ b)

@@ -1,19 +1,19 @@
 -- The lines of the events, put in one after the other. Assumes nothing.
 use mathlib.Core.Path.{_≡_, _∙_, ap}
 use mathlib.Core.List.{List, []}
-use Prim.Native.Nat.{ℕ, _+_, _*_, _≤_}
+use Prim.Native.Nat.{ℕ, _+_, _*_}
 use native.Mathlib.Numerals.{add-one}
 use lib.IntN.{ℤ}
-use lib.ListN.{length, getD}
+use lib.ListN.{getD}
 use Rattle.placing.specs.Placing.{at, naturalOf}
 use Rattle.placing.proofs.SignedLaws.{back, Small, back-is}
 use Rattle.report.specs.Report.{eventLine, eventLines}
 use Rattle.report.specs.Steps.{Adds}
 use Rattle.report.proofs.AddsLaws.{adds-none, adds-then}
 
-pub adds-no-line : (old : List ℕ) (a : ℕ) (names : List (List ℕ)) (xs : List ℤ) → a ≤ length old → Adds old old a a (eventLines names xs 0)
+pub adds-no-line : (old : List ℕ) (a : ℕ) (names : List (List ℕ)) (xs : List ℤ) → Adds old old a a (eventLines names xs 0)
 unfolding eventLines
-adds-no-line old a names xs h = adds-none old a h
+adds-no-line old a names xs = adds-none old a
 
 pub adds-line : {old mid new : List ℕ} {a b c : ℕ} (names : List (List ℕ)) (xs : List ℤ) (k : ℕ) (name : List ℕ) (start end : ℕ)
     → name ≡ getD names k [] → start ≡ naturalOf (at xs (2 * k)) → end ≡ naturalOf (at xs (2 * k + 1))

@@ -1,12 +1,13 @@
--- What the two statements come to: any two outcomes are equal, what is printed lies within the bytes, and what the printed
--- answers mean for the sheet. Assumes nothing.
-use mathlib.Core.Path.{_≡_, refl, sym, _∙_, ap, ap₂}
+-- What the two statements come to: any two outcomes are equal, a room that is long enough has the text whole, and what the
+-- printed answers mean for the sheet. Assumes nothing.
+use mathlib.Core.Path.{_≡_, refl, sym, _∙_}
 use mathlib.Core.Logic.{_↔_}
 use mathlib.Core.List.{List, []}
-use Prim.Native.Nat.{ℕ, _*_, _-_, _≤_, _<_}
+use Prim.Native.Nat.{ℕ, _*_, _≤_, _<_}
 use native.Mathlib.Omega.{arith}
 use lib.IntN.{ℤ, pos}
-use lib.ListN.{length, replicate, length-append}
+use lib.ListN.{length, take, drop}
+use lib.Seq.{take-all, take-append-seam}
 use Rattle.relation.specs.Meaning.{Event}
 use Rattle.grid.specs.Accepted.{Accepted}
 use Rattle.grid.specs.Meets.{Meets}
@@ -23,17 +24,17 @@ use Rattle.search.specs.Rule.{searchOf}
 use Rattle.search.specs.Answers.{ScenarioOf, FirstPlacing}
 use Rattle.search.specs.declared.PlaceAnswer.the-variants.{Placed, None}
 use Rattle.search.proofs.SearchRight.{means}
-use Rattle.report.specs.Report.{mostPrinted, Prints}
-use Rattle.report.specs.declared.Printed.{Printed}
+use Rattle.report.specs.Report.{laid, Prints}
 
-pub prints-unique : (text : List ℕ) (p q : Printed) → Prints text p → Prints text q → p ≡ q
-prints-unique text p q a b =
-    ap₂ (λ (x : List ℕ) (k : ℕ). record { bytes = x; len = k }) (a .bytes ∙ sym (b .bytes)) (a .len ∙ sym (b .len))
+pub prints-unique : (text room : List ℕ) (r s : ℕ) (a b : List ℕ) → Prints text room r a → Prints text room s b → (r ≡ s) × (a ≡ b)
+prints-unique text room r s a b p q = (p .len ∙ sym (q .len), p .bytes ∙ sym (q .bytes))
 
-pub prints-within : (text : List ℕ) (p : Printed) → Prints text p → p .len ≤ length (p .bytes)
-prints-within text p a =
-    let zeros : List ℕ = replicate (mostPrinted - length text) 0 in
-    omega (arith, a .len, ap length (a .bytes), length-append text zeros)
+-- a room that is at least as long as the text has it whole
+pub prints-whole : (text room : List ℕ) (r : ℕ) (room' : List ℕ) → Prints text room r room' → r ≤ length room → take r room' ≡ text
+unfolding laid
+prints-whole text room r room' p h =
+    let l : length text ≤ length room = omega (arith, p .len) in
+    rw (p .bytes, p .len, take-all (length room) text l) (take-append-seam text (drop (length text) room))
 
 -- ---- what an answer means for a sheet that is accepted
 

@@ -1,9 +1,9 @@
 -- Document 01, "Programs": what `place` and `triage` print for a sheet, with an allowance. Assumes nothing.
 use mathlib.Core.Path.{_≡_}
 use mathlib.Core.List.{List, [], _∷_, _++_}
-use Prim.Native.Nat.{ℕ, zero, suc, _+_, _*_, _-_, _≤_}
+use Prim.Native.Nat.{ℕ, zero, suc, _+_, _*_}
 use lib.IntN.{ℤ}
-use lib.ListN.{length, getD, replicate}
+use lib.ListN.{length, take, drop, getD}
 use Rattle.text.specs.Text.{bytes}
 use Rattle.sheet.specs.Sheet.{Outcome, refused, accepted, sheet}
 use Rattle.sheet.specs.Grid.{gridOf}
@@ -12,7 +12,6 @@ use Rattle.search.specs.Rule.{searchOf}
 use Rattle.placing.specs.Placing.{at, naturalOf}
 use Rattle.placing.specs.Settling.{placingOf}
 use Rattle.report.specs.Text.{decimal, line}
-use Rattle.report.specs.declared.Printed.{Printed}
 
 -- ---- the lines
 
@@ -69,13 +68,17 @@ placeText allowance s = placeOf allowance (sheet s)
 unfoldable pub triageText : ℕ → List ℕ → List ℕ
 triageText allowance s = triageOf allowance (sheet s)
 
--- ---- what is handed back
+-- ---- what is lent and handed back
 
+-- the text as far as the room reaches, and then what the room held
+unfoldable pub laid : List ℕ → List ℕ → List ℕ
+laid text room = take (length room) text ++ drop (length text) room
+
+-- the room afterwards, and the length of the whole text
+pub record Prints (text room : List ℕ) (r : ℕ) (room' : List ℕ) : Type 0 where
+  pub len : r ≡ length text
+  pub bytes : room' ≡ laid text room
+
+-- so many bytes are in the rooms of the programs; proofs/FewLaws.antt shows that no text is longer
 abbrev pub mostPrinted : ℕ
 mostPrinted = 2048
-
--- the bytes are the text, then zeros, and len is the text's length
-pub record Prints (text : List ℕ) (p : Printed) : Type 0 where
-  pub fits : length text ≤ mostPrinted
-  pub bytes : p .bytes ≡ text ++ replicate (mostPrinted - length text) 0
-  pub len : p .len ≡ length text

@@ -1,9 +1,10 @@
 -- What the writers inside say of their steps. A reader of the public statements need not read this. Assumes nothing.
 use mathlib.Core.Path.{_≡_}
 use mathlib.Core.Bool.{Bool, true, false}
-use mathlib.Core.List.{List, [], _∷_, _++_}
+use mathlib.Core.List.{List, [], _∷_}
 use Prim.Native.Nat.{ℕ, _+_, _*_, _≤_}
-use lib.ListN.{length, take, drop}
+use lib.ListN.{length}
+use lib.Seq.{sets}
 use Rattle.text.specs.Names.{longestName}
 use Rattle.sheet.specs.Sheet.{Outcome, mostEvents}
 use Rattle.sheet.specs.Steps.{Keeps, Short, namesAt}
@@ -11,18 +12,19 @@ use Rattle.theory.specs.Search.{Found}
 use Rattle.report.specs.Text.{decimal, line}
 use Rattle.report.specs.Report.{firstLine, allLines, placeOf, triageOf}
 
--- `new` is the room `old` with the text put in from `at` on, up to `end`; nothing else changes
+-- `new` is the room `old` with the text put in byte by byte from `at` on, up to `end`; a byte outside the room is left out
 pub record Adds (old new : List ℕ) (at end : ℕ) (text : List ℕ) : Type 0 where
   pub next : end ≡ at + length text
-  pub fits : end ≤ length new
-  pub front : take end new ≡ take at old ++ text
-  pub back : drop end new ≡ drop end old
-  pub long : length new ≡ length old
+  pub room : new ≡ sets old at text
 
 -- a text of at most so many bytes
 pub record AddsUpTo (most : ℕ) (old new : List ℕ) (at end : ℕ) (text : List ℕ) : Type 0 where
   pub adds : Adds old new at end text
   pub within : end ≤ at + most
+
+-- where a text ends is a number of 64 bits
+abbrev pub mostEnd : ℕ
+mostEnd = 18446744073709551615
 
 -- a number of 64 bits has at most so many digits; the word of a first line has at most so many letters
 abbrev pub mostDigits : ℕ

@@ -10,8 +10,8 @@ ghost use Rattle.sheet.specs.Sheet.{sheet as Sheet·sheet};
 ghost use Rattle.sheet.specs.Steps.{namesAt};
 ghost use Rattle.search.specs.Rule.{searchOf};
 ghost use Rattle.report.specs.Text.{decimal};
-ghost use Rattle.report.specs.Report.{refusedLine, eventLine, eventLines, placeText, triageText, Prints, mostPrinted};
-ghost use Rattle.report.specs.Steps.{Adds, AddsUpTo, mostDigits, longestWord, mostEvent, mostFirst, saidLine, Named, foundText, textOf};
+ghost use Rattle.report.specs.Report.{refusedLine, eventLine, eventLines, placeText, triageText, Prints};
+ghost use Rattle.report.specs.Steps.{Adds, AddsUpTo, mostEnd, mostDigits, longestWord, mostEvent, mostFirst, saidLine, Named, foundText, textOf};
 use grid::EVENTS;
 use refusal::Refusal;
 use search::PlaceAnswer;
@@ -20,37 +20,32 @@ use sheet::SheetAnswer;
 // The allowance of a program that has no other.
 pub const ALLOWANCE: u32 = 5000;
 
-// No text is longer.
+// No text is longer: a room of so many bytes has it whole.
 pub const PRINTED: usize = 2048;
 
 const CELLS: usize = EVENTS * EVENTS;
 
 const NUMBERS: usize = 2 * EVENTS;
 
-// The bytes to print, and how many they are; zeros follow.
-pub struct Printed {
-    pub bytes: [u8; PRINTED],
-    pub len: usize,
-}
-
-// This and those below put a text into the room from a place on, and hand back where it ends.
+// This and those below put a text into the room from a place on, as far as the room reaches, and hand back where it ends.
 fn put_byte(out: &mut [u8], at: usize, b: u8) -> usize
-    requires { ⌜ at < length (now out) ⌝ }
+    requires { ⌜ at < mostEnd ⌝ }
     ensures { λ r. ⌜ Adds (now (out .entry)) (now (out .exit)) at r (b ∷ []) ⌝ }
 {
-    out[at] = b;
+    if at < out.len() {
+        out[at] = b;
+    }
     at + 1
 }
 
 fn put_bytes(out: &mut [u8], at: usize, text: &[u8]) -> usize
-    requires { ⌜ at + length (now text) ≤ length (now out) ⌝ }
+    requires { ⌜ at + length (now text) ≤ mostEnd ⌝ }
     ensures { λ r. ⌜ Adds (now (out .entry)) (now (out .exit)) at r (now (text .entry)) ⌝ }
 {
     let mut k = 0;
     let mut end = at;
     while k < text.len() {
-        out[end] = text[k];
-        end += 1;
+        end = put_byte(out, end, text[k]);
         k += 1;
     }
     end
@@ -58,7 +53,7 @@ fn put_bytes(out: &mut [u8], at: usize, text: &[u8]) -> usize
 
 // The digits of k, the last one last.
 fn put_digits(out: &mut [u8], at: usize, k: u64) -> usize
-    requires { ⌜ at + length (decimal k) ≤ length (now out) ⌝ }
+    requires { ⌜ at + length (decimal k) ≤ mostEnd ⌝ }
     ensures { λ r. ⌜ Adds (now (out .entry)) (now (out .exit)) at r (decimal k) ⌝ }
 {
     if k < 10 {
@@ -68,9 +63,9 @@ fn put_digits(out: &mut [u8], at: usize, k: u64) -> usize
     put_byte(out, end, b'0' + (k % 10) as u8)
 }
 
-// A number of 64 bits, which needs room for 20 digits at most.
+// A number of 64 bits, which has 20 digits at most.
 fn put_number(out: &mut [u8], at: usize, k: u64) -> usize
-    requires { ⌜ at + mostDigits ≤ length (now out) ⌝ }
+    requires { ⌜ at + mostDigits ≤ mostEnd ⌝ }
     ensures { λ r. ⌜ AddsUpTo mostDigits (now (out .entry)) (now (out .exit)) at r (decimal k) ⌝ }
 {
     put_digits(out, at, k)
@@ -78,7 +73,7 @@ fn put_number(out: &mut [u8], at: usize, k: u64) -> usize
 
 // The first line: a word and the tries.
 fn put_said(out: &mut [u8], word: &[u8], tries: u32) -> usize
-    requires { ⌜ (length (now word) ≤ longestWord) × (mostFirst ≤ length (now out)) ⌝ }
+    requires { ⌜ length (now word) ≤ longestWord ⌝ }
     ensures { λ r. ⌜ AddsUpTo mostFirst (now (out .entry)) (now (out .exit)) 0 r (saidLine (now (word .entry)) tries) ⌝ }
 {
     let a = put_bytes(out, 0, word);
@@ -89,7 +84,6 @@ fn put_said(out: &mut [u8], word: &[u8], tries: u32) -> usize
 
 // The first line: a refusal and its line of the sheet.
 fn put_refusal(out: &mut [u8], why: Refusal, line: usize) -> usize
-    requires { ⌜ mostFirst ≤ length (now out) ⌝ }
     ensures { λ r. ⌜ AddsUpTo mostFirst (now (out .entry)) (now (out .exit)) 0 r (refusedLine (numberOf why) line) ⌝ }
 {
     let number = refusal::number_of(why) as u64;
@@ -103,7 +97,7 @@ fn put_refusal(out: &mut [u8], why: Refusal, line: usize) -> usize
 
 // The line of an event: name, start, end.
 fn put_event(out: &mut [u8], at: usize, name: &[u8], start: u32, end: u32) -> usize
-    requires { ⌜ (length (now name) ≤ longestName) × (at + mostEvent ≤ length (now out)) ⌝ }
+    requires { ⌜ (length (now name) ≤ longestName) × (at + mostEvent ≤ mostEnd) ⌝ }
     ensures { λ r. ⌜ AddsUpTo mostEvent (now (out .entry)) (now (out .exit)) at r (eventLine (now (name .entry)) start end) ⌝ }
 {
     let a = put_bytes(out, at, name);
@@ -124,7 +118,7 @@ fn put_events(
     n: usize,
     numbers: &[i32],
 ) -> usize
-    requires { ⌜ Named (now s) (now places) (now lengths) n × (length (now numbers) ≡ 2 * n) × (at + mostEvent * n ≤ length (now out)) ⌝ }
+    requires { ⌜ Named (now s) (now places) (now lengths) n × (length (now numbers) ≡ 2 * n) × (at + mostEvent * n ≤ mostEnd) ⌝ }
     ensures { λ r. ⌜ Adds (now (out .entry)) (now (out .exit)) at r (eventLines (namesAt (now (s .entry)) (now (places .entry)) (now (lengths .entry)) n) (now (numbers .entry)) n) ⌝ }
 {
     let mut end = at;
@@ -151,7 +145,7 @@ fn put_found(
     allowance: u32,
     room: &mut [i32],
 ) -> usize
-    requires { ⌜ Named (now s) (now places) (now lengths) n × Accepted n (now g) × (length (now room) ≡ 2 * n) × (mostPrinted ≤ length (now out)) ⌝ }
+    requires { ⌜ Named (now s) (now places) (now lengths) n × Accepted n (now g) × (length (now room) ≡ 2 * n) ⌝ }
     ensures { λ r. ⌜ Adds (now (out .entry)) (now (out .exit)) 0 r (foundText events (namesAt (now (s .entry)) (now (places .entry)) (now (lengths .entry)) n) (searchOf n allowance (now (g .entry)))) ⌝ }
 {
     let answer = search::find_placing(g, n, allowance, room);
@@ -182,7 +176,7 @@ fn put_searched(
     allowance: u32,
     room: &mut [i32],
 ) -> usize
-    requires { ⌜ Named (now s) (now places) (now lengths) n × (n * n ≤ length (now cells)) × Accepted n (take (n * n) (now cells)) × (2 * n ≤ length (now room)) × (mostPrinted ≤ length (now out)) ⌝ }
+    requires { ⌜ Named (now s) (now places) (now lengths) n × (n * n ≤ length (now cells)) × Accepted n (take (n * n) (now cells)) × (2 * n ≤ length (now room)) ⌝ }
     ensures { λ r. ⌜ Adds (now (out .entry)) (now (out .exit)) 0 r (foundText events (namesAt (now (s .entry)) (now (places .entry)) (now (lengths .entry)) n) (searchOf n allowance (take (n * n) (now (cells .entry))))) ⌝ }
 {
     let count = n * n;
@@ -202,7 +196,6 @@ fn put_searched(
 
 // The text for a sheet: all lines, or the first alone.
 fn put_report(out: &mut [u8], events: bool, s: &[u8], allowance: u32) -> usize
-    requires { ⌜ mostPrinted ≤ length (now out) ⌝ }
     ensures { λ r. ⌜ Adds (now (out .entry)) (now (out .exit)) 0 r (textOf events allowance (Sheet·sheet (now (s .entry)))) ⌝ }
 {
     let mut cells = [0u16; CELLS];
@@ -230,20 +223,16 @@ fn put_report(out: &mut [u8], events: bool, s: &[u8], allowance: u32) -> usize
     }
 }
 
-// What `place` prints.
-pub fn place_report(sheet: &[u8], allowance: u32) -> Printed
-    ensures { λ r. ⌜ Prints (placeText allowance (now (sheet .entry))) r ⌝ }
+// What `place` prints, in the lent room as far as it reaches; the length of the whole text is handed back.
+pub fn place_report(sheet: &[u8], allowance: u32, room: &mut [u8]) -> usize
+    ensures { λ r. ⌜ Prints (placeText allowance (now (sheet .entry))) (now (room .entry)) r (now (room .exit)) ⌝ }
 {
-    let mut bytes = [0u8; PRINTED];
-    let len = put_report(&mut bytes, true, sheet, allowance);
-    Printed { bytes, len }
+    put_report(room, true, sheet, allowance)
 }
 
-// What `triage` prints.
-pub fn triage_report(sheet: &[u8], allowance: u32) -> Printed
-    ensures { λ r. ⌜ Prints (triageText allowance (now (sheet .entry))) r ⌝ }
+// What `triage` prints, in the same way.
+pub fn triage_report(sheet: &[u8], allowance: u32, room: &mut [u8]) -> usize
+    ensures { λ r. ⌜ Prints (triageText allowance (now (sheet .entry))) (now (room .entry)) r (now (room .exit)) ⌝ }
 {
-    let mut bytes = [0u8; PRINTED];
-    let len = put_report(&mut bytes, false, sheet, allowance);
-    Printed { bytes, len }
+    put_report(room, false, sheet, allowance)
 }

@@ -122,25 +122,28 @@ reported (answers (saidNone t)) = t
 reported (answers (saidGaveUp t)) = t
 reported (refused k) = 0
 
-search-within : (n a : ℕ) (g : List ℕ) → reported (answers (saidBy (searchOf n a g))) ≤ a
+pub search-within : (n a : ℕ) (g : List ℕ) → triesOf (searchOf n a g) ≤ a
 unfolding searchOf searchAt
-search-within n a g = subst (λ (t : ℕ). t ≤ a) (same (searchOf n a g)) (go (closesTo allen n g))
+search-within n a g = go (closesTo allen n g)
+  where
+    go : (o : Tried) → triesOf (fromClosed n a o) ≤ a
+    go emptied = omega arith
+    go (closed h) = tries-within (thereAt n) (tryAt n) (settles n) a (pairsFrom n 0 1) h 0 (omega arith)
+
+reported-within : (n a : ℕ) (g : List ℕ) → reported (answers (saidBy (searchOf n a g))) ≤ a
+reported-within n a g = subst (λ (t : ℕ). t ≤ a) (same (searchOf n a g)) (search-within n a g)
   where
     same : (e : Found) → triesOf e ≡ reported (answers (saidBy e))
     same (placed t h) = refl
     same (none t) = refl
     same (gaveUp t) = refl
 
-    go : (o : Tried) → triesOf (fromClosed n a o) ≤ a
-    go emptied = omega arith
-    go (closed h) = tries-within (thereAt n) (tryAt n) (settles n) a (pairsFrom n 0 1) h 0 (omega arith)
-
 pub looks-within : (n a : ℕ) (g : List ℕ) (room room' : List ℤ) (ans : PlaceAnswer) → Looks n a g room ans room'
     → (t : ℕ) → (ans ≡ Placed t) ⊎ (ans ≡ None t) ⊎ (ans ≡ GaveUp t) → t ≤ a
 looks-within n a g room room' ans l t w = subst (λ (u : ℕ). u ≤ a) (said w) (subst (λ (s : Answered Said). reported s ≤ a) (sym (l .answer)) (by (eqb (searchRefusal n g (length room)) 0)))
   where
     by : (b : Bool) → reported (cond b (answers (saidBy (searchOf n a g))) (refused (searchRefusal n g (length room)))) ≤ a
-    by true = search-within n a g
+    by true = reported-within n a g
     by false = omega arith
 
     said : (ans ≡ Placed t) ⊎ (ans ≡ None t) ⊎ (ans ≡ GaveUp t) → reported (saidOf ans) ≡ t

@@ -2,6 +2,7 @@ pub mod LineLaws
 pub mod ContentsLaws
 pub mod BodyLaws
 pub mod FitLaws
+pub mod RefusedLaws
 pub mod GridLaws
 pub mod MeantLaws
 pub mod SheetLaws

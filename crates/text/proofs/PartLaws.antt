@@ -95,6 +95,19 @@ split-some c xs = elim (decLt (until c xs) (length xs)) [
   | no h ↦ let g : length xs ≤ until c xs = omega arith in rw (split-last c xs g) (omega arith)
 ]
 
+onto-length : (x : ℕ) (ps : List (List ℕ)) → 1 ≤ length ps → length (onto x ps) ≡ length ps
+onto-length x [] h = absurd (omega arith)
+onto-length x (p ∷ ps) h = refl
+
+-- there is at most one part more than there are bytes
+pub split-few : (c : ℕ) (xs : List ℕ) → length (split c xs) ≤ suc (length xs)
+split-few c [] = omega arith
+split-few c (x ∷ xs) = by (eqb x c) (split-few c xs)
+  where
+    by : (b : Bool) → length (split c xs) ≤ suc (length xs) → length (cond b ([] ∷ split c xs) (onto x (split c xs))) ≤ suc (suc (length xs))
+    by true h = omega arith
+    by false h = omega (arith, onto-length x (split c xs) (split-some c xs))
+
 -- ---- a part of a part
 
 pub drop-take : (m n : ℕ) (l : List ℕ) → drop m (take n l) ≡ take (n - m) (drop m l)

@@ -1,11 +1,16 @@
--- What was read and what is printed lie within their arrays.
+-- What was read lies within its array, and no text is longer than the room.
 use mathlib.Core.Path.{sym}
+use Prim.Native.Nat.{_≤_}
 use lib.Seq.{length-take-le}
-use Rattle.report.proofs.ReportRight.{prints-within}
+use Rattle.report.specs.Report.{mostPrinted}
+use Rattle.report.proofs.FewLaws.{place-within}
 use native.Mathlib.Omega.{arith}
 use borrow.Author.Needs.{needs}
 use Rattle.place.proofs.main.Statement.{statement}
 use Rattle.place.proofs.main.Tie as tie
+
+few : (P : tie.After-place-report) → P .place-report .result ≤ mostPrinted
+few P = place-within _ _ _ _ _ (omega arith) (P .place-report .ensures)
 
 slice-aggregate-read-sheet : tie.Need-slice-aggregate-read-sheet
 slice-aggregate-read-sheet c = search needs
@@ -28,14 +33,17 @@ array-share-prefix-sheet c = search needs
 slice-aggregate-place-report : tie.Need-slice-aggregate-place-report
 slice-aggregate-place-report c = let S = c .before .before .before in sym (length-take-le (S .read-sheet .result) (S .read-sheet .last .0) (omega arith))
 
+slice-aggregate-place-report-2 : tie.Need-slice-aggregate-place-report-2
+slice-aggregate-place-report-2 c = search needs
+
 place-report-requires : tie.Need-place-report-requires
 place-report-requires c κs = search needs
 
-array-share-prefix-bytes : tie.Need-array-share-prefix-bytes
-array-share-prefix-bytes c = prints-within _ _ (c .before .place-report .ensures)
+array-share-prefix-room : tie.Need-array-share-prefix-room
+array-share-prefix-room c = omega (arith, few (c .before))
 
 slice-aggregate-write-all-2 : tie.Need-slice-aggregate-write-all-2
-slice-aggregate-write-all-2 c = let P = c .before .before in sym (length-take-le (P .place-report .result .len) (P .place-report .result .bytes) (prints-within _ _ (P .place-report .ensures)))
+slice-aggregate-write-all-2 c = let P = c .before .before in sym (length-take-le (P .place-report .result) _ (omega (arith, few P)))
 
 write-all-requires-2 : tie.Need-write-all-requires-2
 write-all-requires-2 c κs = search needs
@@ -63,8 +71,9 @@ main-spec =
     returns
     array-share-prefix-sheet
     slice-aggregate-place-report
+    slice-aggregate-place-report-2
     place-report-requires
-    array-share-prefix-bytes
+    array-share-prefix-room
     slice-aggregate-write-all-2
     write-all-requires-2
     slice-aggregate-write-all-3

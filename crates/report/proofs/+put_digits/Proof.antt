@@ -57,7 +57,7 @@ put-digits-same-length : (t : ℕ) → put-digits-lts.Need-same-length (
   put-digits-below t,
   put-digits.Post,
 ) (put-digits-at t) put-digits.Post
-put-digits-same-length t c = c .before .before .put-byte .ensures .long
+put-digits-same-length t c = c .before .before .put-byte .kept .0
 
 put-digits-returns : (t : ℕ) → put-digits-lts.Need-returns (
   put-byte-reads.Asked,
@@ -104,7 +104,7 @@ put-digits-put-byte-requires-2 t c κs =
     let Z = c .before .before .before .before .before .before .before in
     let h : 10 ≤ Z .args .k = omega (arith, c .before .before .before .before .before .if1 .left) in
     let D = c .before .before .before .put-digits .ensures in
-    omega (arith, Z .pre .1, D .next, D .long, ap length (decimal-more (Z .args .k) h), length-append (decimal (Z .args .k / 10)) ((48 + Z .args .k % 10) ∷ []))
+    omega (arith, Z .pre .1, D .next, ap length (decimal-more (Z .args .k) h), length-append (decimal (Z .args .k / 10)) ((48 + Z .args .k % 10) ∷ []))
 
 put-digits-same-length-2 : (t : ℕ) → put-digits-lts.Need-same-length-2 (
   put-byte-reads.Asked,
@@ -112,7 +112,7 @@ put-digits-same-length-2 : (t : ℕ) → put-digits-lts.Need-same-length-2 (
   put-digits-below t,
   put-digits.Post,
 ) (put-digits-at t) put-digits.Post
-put-digits-same-length-2 t c = c .before .before .put-byte2 .ensures .long ∙ c .before .before .before .before .before .before .put-digits .ensures .long
+put-digits-same-length-2 t c = c .before .before .put-byte2 .kept .0 ∙ c .before .before .before .before .before .before .put-digits .kept .0
 
 put-digits-returns-2 : (t : ℕ) → put-digits-lts.Need-returns-2 (
   put-byte-reads.Asked,

@@ -1,11 +1,10 @@
 -- Each turn puts one byte more of the text.
-use mathlib.Core.Path.{_≡_, refl}
+use mathlib.Core.Path.{_≡_, refl, _∙_}
 use Prim.Native.Nat.{_+_, _-_, _≤_}
-use lib.ListN.{length, take, length-set}
+use lib.ListN.{length, take}
 use lib.Seq.{take-all}
 use Rattle.report.specs.Steps.{Adds}
 use Rattle.report.proofs.AddsLaws.{adds-none, adds-more}
-use borrow.Author.Needs.{needs}
 use native.Mathlib.Omega.{arith}
 use Rattle.report.proofs.put_bytes.Statement.{statement}
 use Rattle.report.proofs.put_bytes.Tie as tie
@@ -17,16 +16,13 @@ abbrev μ-loop : tie.MeasureT-loop
 μ-loop out₀ at text k₀ end₀ out k end = length text - k
 
 loop-holds : tie.Need-loop-holds Inv-loop μ-loop
-loop-holds c = (omega arith, omega arith, refl, adds-none (c .args .out .now) (c .args .at) (omega arith))
+loop-holds c = let Z = c .before .before in (omega arith, omega arith, refl, adds-none (Z .args .out .now) (Z .args .at))
 
-shared-slice-read-out : tie.Need-shared-slice-read-out Inv-loop μ-loop
-shared-slice-read-out c = omega arith
+shared-slice-read-put-byte : tie.Need-shared-slice-read-put-byte Inv-loop μ-loop
+shared-slice-read-put-byte c = omega arith
 
-slice-write-out : tie.Need-slice-write-out Inv-loop μ-loop
-slice-write-out c = omega arith
-
-add-end : tie.Need-add-end Inv-loop μ-loop
-add-end c = omega arith
+put-byte-requires : tie.Need-put-byte-requires Inv-loop μ-loop
+put-byte-requires c κs = omega arith
 
 add-k : tie.Need-add-k Inv-loop μ-loop
 add-k c = omega arith
@@ -36,14 +32,23 @@ loop-less c = omega arith
 
 loop-again : tie.Need-loop-again Inv-loop μ-loop
 loop-again c =
-    let L = c .before .before in
-    (omega arith, omega arith, simp length-set (omega arith), adds-more (L .before .args .text .now) (L .loop .k) (c .before .loop-test .taken) (omega arith) (L .loop .inv .3))
+    let P = c .before .before in
+    let T = P .before .before .before in
+    let L = T .before in
+    let Z = L .before .before .before in (
+      omega arith,
+      omega (arith, P .put-byte .ensures .next),
+      P .put-byte .kept .0 ∙ L .loop .inv .2,
+      adds-more (Z .args .text .now) (L .loop .k) (T .loop-test .taken) (L .loop .inv .3) (P .put-byte .ensures),
+    )
 
 same-length : tie.Need-same-length Inv-loop μ-loop
-same-length c = search needs
+same-length c = c .before .loop .inv .2
 
 returns : tie.Need-returns Inv-loop μ-loop
-returns c = let L = c .before in rw (take-all (L .loop .k) (L .before .args .text .now) (c .loop-test .left)) at (L .loop .inv .3)
+returns c =
+    let L = c .before in
+    rw (take-all (L .loop .k) (L .before .before .before .args .text .now) (c .loop-test .left)) at (L .loop .inv .3)
 
 pub put-bytes-spec : {M : Type 1} → statement M
 put-bytes-spec =
@@ -52,9 +57,8 @@ put-bytes-spec =
     Inv-loop
     μ-loop
     loop-holds
-    shared-slice-read-out
-    slice-write-out
-    add-end
+    shared-slice-read-put-byte
+    put-byte-requires
     add-k
     loop-less
     loop-again

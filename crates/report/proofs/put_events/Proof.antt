@@ -6,7 +6,7 @@ use Rattle.sheet.specs.Steps.{namesAt}
 use Rattle.sheet.proofs.ContentsLaws.{names-length}
 use Rattle.placing.specs.Placing.{at}
 use Rattle.report.specs.Report.{eventLines}
-use Rattle.report.specs.Steps.{Adds, mostEvent}
+use Rattle.report.specs.Steps.{Adds, mostEnd, mostEvent}
 use Rattle.report.proofs.EventLaws.{adds-no-line, adds-line, natural-is}
 use borrow.Author.Needs.{needs}
 use native.Mathlib.Omega.{arith}
@@ -14,13 +14,13 @@ use Rattle.report.proofs.put_events.Statement.{statement}
 use Rattle.report.proofs.put_events.Tie as tie
 
 abbrev Inv-loop : tie.InvT-loop
-Inv-loop out₀ at s places lengths n numbers end₀ i₀ out end i = (i ≤ n) × (end + mostEvent * (n - i) ≤ length out) × (length out ≡ length out₀) × Adds out₀ out at end (eventLines (namesAt s places lengths n) numbers i)
+Inv-loop out₀ at s places lengths n numbers end₀ i₀ out end i = (i ≤ n) × (end + mostEvent * (n - i) ≤ mostEnd) × (length out ≡ length out₀) × Adds out₀ out at end (eventLines (namesAt s places lengths n) numbers i)
 
 abbrev μ-loop : tie.MeasureT-loop
 μ-loop out₀ at s places lengths n numbers end₀ i₀ out end i = n - i
 
 loop-holds : tie.Need-loop-holds Inv-loop μ-loop
-loop-holds c = let Z = c .before .before .before .before in (omega arith, omega (arith, Z .pre .2), refl, adds-no-line (Z .args .out .now) (Z .args .at) (namesAt (Z .args .s .now) (Z .args .places .now) (Z .args .lengths .now) (Z .args .n)) (Z .args .numbers .now) (omega (arith, Z .pre .2)))
+loop-holds c = let Z = c .before .before .before .before in (omega arith, omega (arith, Z .pre .2), refl, adds-no-line (Z .args .out .now) (Z .args .at) (namesAt (Z .args .s .now) (Z .args .places .now) (Z .args .lengths .now) (Z .args .n)) (Z .args .numbers .now))
 
 name-at-requires : tie.Need-name-at-requires Inv-loop μ-loop
 name-at-requires c κs = c .before .before .before .before .before .before .pre .0 .keeps
@@ -79,8 +79,8 @@ loop-again c =
     let xs = Z .args .numbers .now in
     let i = L .loop .i in (
       omega arith,
-      omega (arith, E .within, E .adds .long),
-      E .adds .long ∙ L .loop .inv .2,
+      omega (arith, E .within),
+      c .before .before .put-event .kept .0 ∙ L .loop .inv .2,
       adds-line (namesAt (Z .args .s .now) (Z .args .places .now) (Z .args .lengths .now) (Z .args .n)) xs i _ _ _
           (M .name-at .ensures .bytes)
           (natural-is (at xs (2 * i)) (A₁ .natural-arg .given) _ (E₁ .natural .ensures))

@@ -67,7 +67,6 @@ put-searched-requires c κs =
       omega (arith, w, F A .read-into .kept .1 .0),
       into-accepted _ _ _ _ (read A),
       omega arith,
-      omega arith,
     )
 
 same-length : tie.Need-same-length

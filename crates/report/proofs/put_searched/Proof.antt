@@ -1,6 +1,5 @@
 -- The grid and the room for the placing are as long as they were cut.
 use mathlib.Core.Path.{sym}
-use native.Mathlib.Omega.{arith}
 use lib.Seq.{length-take-le}
 use borrow.Author.Needs.{needs}
 use Rattle.report.proofs.put_searched.Statement.{statement}
@@ -22,7 +21,7 @@ slice-aggregate-put-found-2 : tie.Need-slice-aggregate-put-found-2
 slice-aggregate-put-found-2 c = sym (length-take-le _ _ (c .before .before .before .before .before .before .before .before .pre .3))
 
 put-found-requires : tie.Need-put-found-requires
-put-found-requires c κs = let P = c .before .before .before .before .before .before .before .before .pre in (P .0, P .2, length-take-le _ _ (P .3), omega arith)
+put-found-requires c κs = let P = c .before .before .before .before .before .before .before .before .pre in (P .0, P .2, length-take-le _ _ (P .3))
 
 same-length : tie.Need-same-length
 same-length c = search needs
