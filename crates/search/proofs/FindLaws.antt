@@ -13,10 +13,10 @@ use Rattle.refusal.specs.Answered.{Answered, refused, answers}
 use Rattle.refusal.specs.Numbers.{numberOf}
 use Rattle.refusal.specs.declared.Refusal.{Refusal}
 use Rattle.refusal.proofs.NumberLaws.{number-pos, number-unique}
-use Rattle.refusal.proofs.AnsweredLaws.{first-none}
+use Rattle.refusal.proofs.AnsweredLaws.{first-next, first-none}
 use Rattle.grid.specs.Cells.{someEmpty}
 use Rattle.grid.specs.Accepted.{Accepted, cellRefusal}
-use Rattle.grid.proofs.AcceptedLaws.{accepted, size-fine}
+use Rattle.grid.proofs.AcceptedLaws.{accepted, never-refused, size-fine}
 use Rattle.theory.specs.Allen.{allen}
 use Rattle.theory.specs.Search.{Tried, emptied, closed, closesTo, Found, placed, none, gaveUp, pairsFrom}
 use Rattle.theory.specs.Tried.{triedBy}
@@ -26,11 +26,13 @@ use Rattle.takes.specs.declared.End.the-variants.{Closed}
 use Rattle.theory.proofs.SearchLaws.{triesOf, tries-within}
 use Rattle.placing.specs.Settling.{settles}
 use Rattle.placing.specs.Checking.{lengthRefusal}
-use Rattle.placing.proofs.CheckLaws.{lengths}
+use Rattle.placing.proofs.CheckLaws.{lengths, length-right}
 use Rattle.search.specs.Rule.{thereAt, tryAt, searchAt, searchOf, fromClosed}
 use Rattle.search.specs.Answers.{Said, saidPlaced, saidNone, saidGaveUp, saidOf, searchRefusal, saidBy, roomBy, Looks}
-use Rattle.search.specs.Steps.{saidWith, Shows, Answers, Searched}
+use Rattle.search.specs.Steps.{saidWith, Shows, answerWith, answerOf, Searched}
 use Rattle.search.specs.declared.Looked.{Looked}
+use Rattle.search.specs.declared.Outcome.{Outcome}
+use Rattle.search.specs.declared.Outcome.the-variants as Outcome
 use Rattle.search.specs.declared.PlaceAnswer.{PlaceAnswer}
 use Rattle.search.specs.declared.PlaceAnswer.the-variants.{Placed, None, GaveUp, Refused}
 use Rattle.search.proofs.TryRight.{whole-searched}
@@ -52,13 +54,10 @@ module _ (n allowance : ℕ) (g : List ℕ) where
 pub first-searched : (n : ℕ) (g : List ℕ) → Accepted n g → (e : End) (v : ℕ) (h : List ℕ) → triedBy (ended e h) ≡ closesTo allen n g → e ≡ Closed v → Searched n h
 first-searched n g a e v h q is = whole-searched n h (first-whole n g a h (sym q ∙ a-grid e v h is))
 
-pub answers-none : (n : ℕ) (e : Found) (room : List ℤ) → e ≡ none 0 → Answers n e room (None 0) room
-answers-none n e room q = record { answer = sym (ap (λ (x : Found). answers (saidBy x)) q); room-after = sym (ap (λ (x : Found). roomBy n x room) q) }
-
-pub answers-shown : (n a : ℕ) (e f : Found) (room room' : List ℤ) (l : Looked) (ans : PlaceAnswer) → e ≡ f → Shows n a f room l room'
-    → saidOf ans ≡ answers (saidWith (l .outcome) (l .tries)) → Answers n e room ans room'
-answers-shown n a e f room room' l ans q s w =
-    record { answer = w ∙ ap answers (s .answer ∙ sym (ap saidBy q)); room-after = s .room-after ∙ sym (ap (λ (x : Found). roomBy n x room) q) }
+said-with : (o : Outcome) (t : ℕ) → saidOf (answerWith o t) ≡ answers (saidWith o t)
+said-with Outcome.Placed t = refl
+said-with Outcome.None t = refl
+said-with Outcome.GaveUp t = refl
 
 -- ---- the public statement
 
@@ -68,15 +67,33 @@ refuses n a g room r e =
     let off : eqb (searchRefusal n g (length room)) 0 ≡ false = ne-eqb (searchRefusal n g (length room)) 0 (λ z. omega arith) in
     record { answer = simp (off, ← e); room-after = simp off; means = tt }
 
-pub looks : (n a : ℕ) (g : List ℕ) (room room' : List ℤ) (ans : PlaceAnswer) → searchRefusal n g (length room) ≡ 0 → Accepted n g
-    → Answers n (searchOf n a g) room ans room' → Looks n a g room ans room'
-looks n a g room room' ans e acc s =
-    let on : eqb (searchRefusal n g (length room)) 0 ≡ true = eq-eqb (searchRefusal n g (length room)) 0 e in
-    record {
-      answer = s .answer ∙ simp on;
-      room-after = s .room-after ∙ simp on;
-      means = means n g acc a (searchOf n a g) refl ans room room' (s .answer) (s .room-after);
-    }
+-- what is shown of an accepted grid and a room of its length
+module _ (n a : ℕ) (g : List ℕ) (room : List ℤ) (acc : Accepted n g) (long : length room ≡ 2 * n) where
+  never-due : searchRefusal n g (length room) ≡ 0
+  unfolding searchRefusal
+  never-due =
+      let w = never-refused n g acc in
+      first-next (lengthRefusal n g (length room)) (cellRefusal n g) (length-right n g (length room) (w .0) long) ∙ w .1
+
+  on : eqb (searchRefusal n g (length room)) 0 ≡ true
+  on = eq-eqb (searchRefusal n g (length room)) 0 never-due
+
+  pub looks : (e : Found) (room' : List ℤ) (l : Looked) → searchOf n a g ≡ e → Shows n a e room l room' → Looks n a g room (answerOf l) room'
+  looks e room' l q s =
+      let said : saidOf (answerOf l) ≡ answers (saidBy (searchOf n a g)) = said-with (l .outcome) (l .tries) ∙ ap answers (s .answer ∙ sym (ap saidBy q)) in
+      let after : room' ≡ roomBy n (searchOf n a g) room = s .room-after ∙ sym (ap (λ (x : Found). roomBy n x room) q) in
+      record { answer = said ∙ simp on; room-after = after ∙ simp on; means = means n g acc a (searchOf n a g) refl (answerOf l) room room' said after }
+
+  -- and what such a statement says
+  module _ (room' : List ℤ) (ans : PlaceAnswer) (l : Looks n a g room ans room') where
+    pub answer-is : saidOf ans ≡ answers (saidBy (searchOf n a g))
+    answer-is = l .answer ∙ simp on
+
+    pub room-is : room' ≡ roomBy n (searchOf n a g) room
+    room-is = l .room-after ∙ simp on
+
+pub looks-as : (n a : ℕ) (g : List ℕ) (room room' : List ℤ) (x y : PlaceAnswer) → x ≡ y → Looks n a g room y room' → Looks n a g room x room'
+looks-as n a g room room' x y e l = subst (λ (z : PlaceAnswer). Looks n a g room z room') (sym e) l
 
 -- no refusal: the grid is accepted, and the room has 2 * n numbers
 pub record Taken (n : ℕ) (g : List ℕ) (m : ℕ) : Type 0 where

@@ -6,7 +6,6 @@ use Prim.Native.Nat.{ℕ, _+_, _-_, _≤_, _<_}
 use lib.Dec.{ltb}
 use lib.IntN.{ℤ}
 use lib.ListN.{length}
-use Rattle.refusal.specs.Answered.{answers}
 use Rattle.grid.specs.Cells.{cell}
 use Rattle.grid.specs.Accepted.{Accepted}
 use Rattle.theory.specs.Fair.{Full}
@@ -15,12 +14,13 @@ use Rattle.theory.specs.Closing.{Closed}
 use Rattle.theory.specs.Search.{Pair, Found, pastLast, pairsFrom}
 use Rattle.placing.specs.Settling.{settles}
 use Rattle.search.specs.Rule.{thereAt, searchAt}
-use Rattle.search.specs.Answers.{Said, saidPlaced, saidNone, saidGaveUp, saidOf, saidBy, roomBy}
+use Rattle.search.specs.Answers.{Said, saidPlaced, saidNone, saidGaveUp, saidBy, roomBy}
 use Rattle.search.specs.declared.Outcome.{Outcome}
 use Rattle.search.specs.declared.Outcome.the-variants.{Placed, None, GaveUp}
 use Rattle.search.specs.declared.Looked.{Looked}
 use Rattle.search.specs.declared.Stand.{Stand}
 use Rattle.search.specs.declared.PlaceAnswer.{PlaceAnswer}
+use Rattle.search.specs.declared.PlaceAnswer.the-variants as Answer
 
 abbrev pub saidWith : Outcome → ℕ → Said
 saidWith Placed t = saidPlaced t
@@ -33,10 +33,14 @@ pub record Shows (n allowance : ℕ) (e : Found) (room : List ℤ) (l : Looked) 
   pub room-after : room' ≡ roomBy n e room
   pub within : l .tries ≤ allowance
 
--- the same, as an answer
-pub record Answers (n : ℕ) (e : Found) (room : List ℤ) (a : PlaceAnswer) (room' : List ℤ) : Type 0 where
-  pub answer : saidOf a ≡ answers (saidBy e)
-  pub room-after : room' ≡ roomBy n e room
+-- what the cells came to, as an answer
+abbrev pub answerWith : Outcome → ℕ → PlaceAnswer
+answerWith Placed t = Answer.Placed t
+answerWith None t = Answer.None t
+answerWith GaveUp t = Answer.GaveUp t
+
+abbrev pub answerOf : Looked → PlaceAnswer
+answerOf l = answerWith (l .outcome) (l .tries)
 
 -- past the last cell
 pub record Settles (n t : ℕ) (g : List ℕ) (room : List ℤ) (l : Looked) (room' : List ℤ) : Type 0 where

@@ -2,7 +2,6 @@
 ghost use mathlib.Core.Path.{_≡_};
 ghost use Prim.Native.Nat.{_*_, _≤_, _<_};
 ghost use lib.ListN.{length, take};
-ghost use Rattle.refusal.specs.Answered.{answers};
 ghost use Rattle.grid.specs.Cells.{Held};
 ghost use Rattle.grid.specs.Accepted.{Accepted, judgedNumber};
 ghost use Rattle.theory.specs.Fair.{Fair};
@@ -11,9 +10,9 @@ ghost use Rattle.theory.specs.Search.{closesTo};
 ghost use Rattle.theory.specs.Tried.{triedBy};
 ghost use Rattle.takes.specs.Waiting.{Idle};
 ghost use Rattle.takes.specs.Steps.{ended};
-ghost use Rattle.search.specs.Rule.{tryAt, searchOf};
-ghost use Rattle.search.specs.Answers.{saidOf, searchRefusal, Looks};
-ghost use Rattle.search.specs.Steps.{saidWith, Shows, Settles, Answers, Searched, Triable, Stands, Steps, Passes, goesOn, after};
+ghost use Rattle.search.specs.Rule.{tryAt};
+ghost use Rattle.search.specs.Answers.{searchRefusal, Looks};
+ghost use Rattle.search.specs.Steps.{Shows, Settles, answerOf, Searched, Triable, Stands, Steps, Passes, goesOn, after};
 use grid::Judged;
 use refusal::Refusal;
 use takes::End;
@@ -234,7 +233,7 @@ fn close_copy(
 
 // The search's end as an answer.
 fn answer_of(found: Looked) -> PlaceAnswer
-    ensures { λ a. ⌜ saidOf a ≡ answers (saidWith (found .outcome) (found .tries)) ⌝ }
+    ensures { λ a. ⌜ a ≡ answerOf found ⌝ }
 {
     let tries = found.tries;
     let outcome = found.outcome;
@@ -245,20 +244,20 @@ fn answer_of(found: Looked) -> PlaceAnswer
     }
 }
 
-// Looks for a placing of an accepted grid.
-fn search_accepted(g: &[u16], n: usize, allowance: u32, room: &mut [i32]) -> PlaceAnswer
+// Looks for a placing of an accepted grid: for rooms that know theirs to be one.
+pub fn search_accepted(g: &[u16], n: usize, allowance: u32, room: &mut [i32]) -> Looked
     requires { ⌜ Accepted n (now g) × (length (now room) ≡ 2 * n) ⌝ }
-    ensures { λ a. ⌜ Answers n (searchOf n allowance (now (g .entry))) (now (room .entry)) a (now (room .exit)) ⌝ }
+    ensures { λ l. ⌜ Looks n allowance (now (g .entry)) (now (room .entry)) (answerOf l) (now (room .exit)) ⌝ }
 {
     if grid::some_empty(g) {
-        return PlaceAnswer::None(0);
+        return came_to(Outcome::None, 0);
     }
     let mut ring = [0u16; 1024];
     let mut flag = [0u8; 1024];
     let mut work = [0u16; 1024];
     let first = close_copy(&mut ring, &mut flag, g, &mut work, n);
     let End::Closed(_takes) = first else {
-        return PlaceAnswer::None(0);
+        return came_to(Outcome::None, 0);
     };
     let cells = n * n;
     let stand = Stand {
@@ -267,7 +266,7 @@ fn search_accepted(g: &[u16], n: usize, allowance: u32, room: &mut [i32]) -> Pla
         left: (cells - n) / 2,
         tries: 0,
     };
-    let found = look(
+    look(
         &mut ring,
         &mut flag,
         n,
@@ -275,8 +274,7 @@ fn search_accepted(g: &[u16], n: usize, allowance: u32, room: &mut [i32]) -> Pla
         &work[..cells],
         allowance,
         room,
-    );
-    answer_of(found)
+    )
 }
 
 // Refusals 1, 2, 6, 3, 4 and 5 of a grid and a room of so many numbers.
@@ -297,6 +295,6 @@ pub fn find_placing(g: &[u16], n: usize, allowance: u32, room: &mut [i32]) -> Pl
     let judged = judge(g, n, room.len());
     match judged {
         Judged::Refused(r) => PlaceAnswer::Refused(r),
-        Judged::Accepted => search_accepted(g, n, allowance, room),
+        Judged::Accepted => answer_of(search_accepted(g, n, allowance, room)),
     }
 }

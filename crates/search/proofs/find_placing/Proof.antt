@@ -1,7 +1,7 @@
 -- A refusal comes first; an accepted grid is searched.
 use mathlib.Core.Path.{sym, ap, _∙_}
 use Rattle.grid.specs.Accepted.{judgedNumber}
-use Rattle.search.proofs.FindLaws.{taken, refuses, looks}
+use Rattle.search.proofs.FindLaws.{taken, refuses, looks-as}
 use borrow.Author.Needs.{needs}
 use Rattle.search.proofs.find_placing.Statement.{statement}
 use Rattle.search.proofs.find_placing.Tie as tie
@@ -18,6 +18,9 @@ enum-told c = search needs
 search-accepted-requires : tie.Need-search-accepted-requires
 search-accepted-requires c κs = let w = taken _ _ _ (sym (c .before .before .before .judge .ensures) ∙ ap judgedNumber (c .before .enum-told .given .1)) in (w .grid, w .room)
 
+answer-of-requires : tie.Need-answer-of-requires
+answer-of-requires c κs = search needs
+
 returns : tie.Need-returns
 returns c = refuses _ _ _ _ _ (sym (ap judgedNumber (c .before .judged .given .1)) ∙ c .before .before .before .judge .ensures)
 
@@ -25,9 +28,7 @@ same-length : tie.Need-same-length
 same-length c = search needs
 
 returns-2 : tie.Need-returns-2
-returns-2 c =
-    let z = sym (c .before .before .before .before .before .judge .ensures) ∙ ap judgedNumber (c .before .before .before .enum-told .given .1) in
-    looks _ _ _ _ _ _ z (taken _ _ _ z .grid) (c .before .search-accepted .ensures)
+returns-2 c = looks-as _ _ _ _ _ _ _ (c .answer-of .ensures) (c .before .before .search-accepted .ensures)
 
 pub find-placing-spec : {M : Type 1} → statement M
 find-placing-spec =
@@ -37,6 +38,7 @@ find-placing-spec =
     enum-known-judged
     enum-told
     search-accepted-requires
+    answer-of-requires
     returns
     same-length
     returns-2)
