@@ -1,42 +1,19 @@
 -- What the search answers of an accepted grid, as text. Assumes nothing.
-use mathlib.Core.Path.{_≡_, _∙_, ap}
+use mathlib.Core.Path.{_≡_, ap}
 use mathlib.Core.Bool.{Bool, true, false}
 use mathlib.Core.List.{List, _++_}
-use Prim.Native.Nat.{ℕ, _*_}
+use Prim.Native.Nat.{ℕ}
 use native.Mathlib.Omega.{arith}
-use lib.Dec.{eqb}
 use lib.IntN.{ℤ}
 use lib.ListN.{length}
-use borrow.Author.Tests.{eq-eqb}
-use Rattle.grid.specs.Accepted.{Accepted, cellRefusal}
-use Rattle.grid.proofs.AcceptedLaws.{never-refused}
-use Rattle.refusal.proofs.AnsweredLaws.{first-next}
 use Rattle.sheet.specs.Sheet.{Statement, Outcome, refused, accepted}
 use Rattle.sheet.specs.Grid.{gridOf}
 use Rattle.theory.specs.Search.{Found, placed, none, gaveUp}
-use Rattle.placing.specs.Checking.{lengthRefusal}
-use Rattle.placing.proofs.CheckLaws.{length-right}
 use Rattle.search.specs.Rule.{searchOf}
 use Rattle.refusal.specs.Answered.{refused, answers}
-use Rattle.search.specs.Answers.{saidPlaced, saidNone, saidGaveUp, saidOf, saidBy, roomBy, searchRefusal, Looks}
-use Rattle.search.specs.declared.PlaceAnswer.{PlaceAnswer}
+use Rattle.search.specs.Answers.{saidPlaced, saidNone, saidGaveUp, saidBy, roomBy}
 use Rattle.report.specs.Report.{placedLine, noneLine, gaveUpLine, refusedLine, eventLines, firstLine, allLines}
 use Rattle.report.specs.Steps.{foundText, textOf}
-
--- no refusal comes: the answer and the room are those of the search
-module _ (n allowance : ℕ) (g : List ℕ) (a : PlaceAnswer) (room after : List ℤ) (acc : Accepted n g) (long : length room ≡ 2 * n) (l : Looks n allowance g room a after) where
-  unrefused : searchRefusal n g (length room) ≡ 0
-  unfolding searchRefusal
-  unrefused = let w = never-refused n g acc in first-next (lengthRefusal n g (length room)) (cellRefusal n g) (length-right n g (length room) (w .0) long) ∙ w .1
-
-  taken : eqb (searchRefusal n g (length room)) 0 ≡ true
-  taken = eq-eqb (searchRefusal n g (length room)) 0 unrefused
-
-  pub answer-is : saidOf a ≡ answers (saidBy (searchOf n allowance g))
-  answer-is = l .answer ∙ simp taken
-
-  pub room-is : after ≡ roomBy n (searchOf n allowance g) room
-  room-is = l .room-after ∙ simp taken
 
 -- ---- the text of each answer
 
@@ -75,11 +52,6 @@ module _ (names : List (List ℕ)) (e : Found) where
       by false (gaveUp u) q = let w : u ≡ t = cc in ap gaveUpLine w
       by events (placed u h) q = let z : _≡_ {A = ℕ} 0 1 = cc in absurd (omega arith)
       by events (none u) q = let z : _≡_ {A = ℕ} 0 1 = cc in absurd (omega arith)
-
-pub no-refusal : (e : Found) (k : ℕ) → refused k ≡ answers (saidBy e) → ⊥
-no-refusal (placed u h) k q = let z : _≡_ {A = ℕ} 0 1 = cc in omega arith
-no-refusal (none u) k q = let z : _≡_ {A = ℕ} 0 1 = cc in omega arith
-no-refusal (gaveUp u) k q = let z : _≡_ {A = ℕ} 0 1 = cc in omega arith
 
 -- ---- the text of a sheet
 

@@ -14,7 +14,7 @@ ghost use Rattle.report.specs.Report.{refusedLine, eventLine, eventLines
 ghost use Rattle.report.specs.Steps.{Adds, AddsUpTo, mostEnd, mostDigits, longestWord, mostEvent, mostFirst, saidLine, Named, foundText, textOf};
 use grid::EVENTS;
 use refusal::Refusal;
-use search::PlaceAnswer;
+use search::Outcome;
 use sheet::SheetAnswer;
 
 // The allowance of a program that has no other.
@@ -148,9 +148,11 @@ fn put_found(
     requires { ⌜ Named (now s) (now places) (now lengths) n × Accepted n (now g) × (length (now room) ≡ 2 * n) ⌝ }
     ensures { λ r. ⌜ Adds (now (out .entry)) (now (out .exit)) 0 r (foundText events (namesAt (now (s .entry)) (now (places .entry)) (now (lengths .entry)) n) (searchOf n allowance (now (g .entry)))) ⌝ }
 {
-    let answer = search::find_placing(g, n, allowance, room);
-    match answer {
-        PlaceAnswer::Placed(tries) => {
+    let found = search::search_accepted(g, n, allowance, room);
+    let tries = found.tries;
+    let outcome = found.outcome;
+    match outcome {
+        Outcome::Placed => {
             let end = put_said(out, b"placed", tries);
             if events {
                 put_events(out, end, s, places, lengths, n, room)
@@ -158,9 +160,8 @@ fn put_found(
                 end
             }
         }
-        PlaceAnswer::None(tries) => put_said(out, b"none", tries),
-        PlaceAnswer::GaveUp(tries) => put_said(out, b"gave-up", tries),
-        PlaceAnswer::Refused(why) => put_refusal(out, why, 0),
+        Outcome::None => put_said(out, b"none", tries),
+        Outcome::GaveUp => put_said(out, b"gave-up", tries),
     }
 }
 
