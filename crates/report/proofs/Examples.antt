@@ -7,7 +7,7 @@ use Rattle.text.specs.Text.{bytes, isNumber}
 use Rattle.text.specs.Names.{isName, sameName}
 use Rattle.sheet.specs.Sheet.{isEntry, owners, bodies, contents, sheet}
 use Rattle.report.specs.Text.{digits, decimal}
-use Rattle.report.specs.Report.{placedLine, noneLine, gaveUpLine, refusedLine, eventLine, placeText, triageText}
+use Rattle.report.specs.Report.{placedLine, noneLine, gaveUpLine, refusedLine, eventLine, placeText, triageText, laid}
 
 abbrev allBytes : List String → List (List ℕ)
 allBytes texts = map bytes texts
@@ -22,3 +22,10 @@ refused-shown : (placeText 5000 (bytes "") ∷ triageText 5000 (bytes "33\n") �
     ≡ allBytes ("refused 9 1\n" ∷ "refused 1 1\n" ∷ "refused 10 3\n" ∷ [])
 unfolding placeText triageText refusedLine decimal digits sheet isEntry isNumber isName sameName contents bodies owners
 refused-shown = refl
+
+-- rooms of ten dots, of as many as the text has bytes, of four, and of none
+laid-shown : (laid (bytes "none 0\n") (bytes "..........") ∷ laid (bytes "none 0\n") (bytes ".......") ∷ laid (bytes "none 0\n") (bytes "....")
+    ∷ laid (bytes "none 0\n") (bytes "") ∷ [])
+    ≡ allBytes ("none 0\n..." ∷ "none 0\n" ∷ "none" ∷ "" ∷ [])
+unfolding laid
+laid-shown = refl

@@ -2,12 +2,12 @@
 -- printed answers mean for the sheet. Assumes nothing.
 use mathlib.Core.Path.{_≡_, refl, sym, _∙_}
 use mathlib.Core.Logic.{_↔_}
-use mathlib.Core.List.{List, []}
+use mathlib.Core.List.{List, [], append-nil}
 use Prim.Native.Nat.{ℕ, _*_, _≤_, _<_}
 use native.Mathlib.Omega.{arith}
 use lib.IntN.{ℤ, pos}
-use lib.ListN.{length, take, drop}
-use lib.Seq.{take-all, take-append-seam}
+use lib.ListN.{length, take, drop, drop-of-length-le}
+use lib.Seq.{take-all, take-append-seam, drop-append-seam}
 use Rattle.relation.specs.Meaning.{Event}
 use Rattle.grid.specs.Accepted.{Accepted}
 use Rattle.grid.specs.Meets.{Meets}
@@ -29,12 +29,27 @@ use Rattle.report.specs.Report.{laid, Prints}
 pub prints-unique : (text room : List ℕ) (r s : ℕ) (a b : List ℕ) → Prints text room r a → Prints text room s b → (r ≡ s) × (a ≡ b)
 prints-unique text room r s a b p q = (p .len ∙ sym (q .len), p .bytes ∙ sym (q .bytes))
 
--- a room that is at least as long as the text has it whole
-pub prints-whole : (text room : List ℕ) (r : ℕ) (room' : List ℕ) → Prints text room r room' → r ≤ length room → take r room' ≡ text
-unfolding laid
-prints-whole text room r room' p h =
-    let l : length text ≤ length room = omega (arith, p .len) in
-    rw (p .bytes, p .len, take-all (length room) text l) (take-append-seam text (drop (length text) room))
+module _ (text room : List ℕ) (r : ℕ) (room' : List ℕ) (p : Prints text room r room') where
+  -- a room that is at least as long as the text has it whole
+  pub prints-whole : r ≤ length room → take r room' ≡ text
+  unfolding laid
+  prints-whole h =
+      let l : length text ≤ length room = omega (arith, p .len) in
+      rw (p .bytes, p .len, take-all (length room) text l) (take-append-seam text (drop (length text) room))
+
+  -- and is as found after it
+  pub prints-rest : r ≤ length room → drop r room' ≡ drop r room
+  unfolding laid
+  prints-rest h =
+      let l : length text ≤ length room = omega (arith, p .len) in
+      rw (p .bytes, p .len, take-all (length room) text l) (drop-append-seam text (drop (length text) room))
+
+  -- a shorter room is filled with the front of the text
+  pub prints-short : length room ≤ r → room' ≡ take (length room) text
+  unfolding laid
+  prints-short h =
+      let l : length room ≤ length text = omega (arith, p .len) in
+      p .bytes ∙ rw (drop-of-length-le room l, append-nil)
 
 -- ---- what an answer means for a sheet that is accepted
 

@@ -21,7 +21,8 @@ use Rattle.theory.specs.Fair.{Full}
 use Rattle.theory.specs.Search.{emptied, closed, unlessEmpty, closesTo}
 use Rattle.theory.specs.Largest.{every, isSub, isWithin, isClosed, someGrid, closingOf}
 use Rattle.theory.proofs.Lawful.{Lawful, OfSets}
-use Rattle.theory.proofs.ClosingLaws.{sub-refl, closing-unique, closing-same}
+use Rattle.theory.proofs.ClosingLaws.{closing-unique, closing-same}
+use Rattle.theory.proofs.AgainLaws.{closing-own}
 
 -- ---- tests
 
@@ -255,4 +256,4 @@ module _ (A : Calculus) (L : Lawful A) (S : OfSets A) (n : ℕ) where
       -- a closed grid without an empty cell is left as it is
       pub closes-same : length g ≡ n * n → Full n g → Closed A n (cell n g) → closesTo A n g ≡ closed g
       closes-same l full cl =
-          closes-closed g l full (record { closed = cl; inside = λ i j hi hj. sub-refl A L (cell n g i j); largest = λ D d w. w })
+          closes-closed g l full (closing-own A L n (cell n g) cl)

@@ -1,5 +1,6 @@
 pub mod Lawful
 pub mod ClosingLaws
+pub mod AgainLaws
 pub mod LargestLaws
 pub mod LineLaws
 pub mod QuickLaws

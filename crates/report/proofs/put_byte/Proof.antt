@@ -15,7 +15,7 @@ stored c =
     ⊎-elim (λ w. w .1) (λ w. w .1 ∙ sym (set-out (Z .args .out .now) (Z .args .at) (Z .args .b) (omega (arith, w .0 .left)))) (c .if1 .came)
 
 slice-write-out : tie.Need-slice-write-out
-slice-write-out c = search needs
+slice-write-out c = omega arith
 
 add-result : tie.Need-add-result
 add-result c = search needs
