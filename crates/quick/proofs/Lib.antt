@@ -1,2 +1,3 @@
 pub mod RuleLaws
 pub mod ShowLaws
+pub mod PairLaws

@@ -29,7 +29,8 @@ use Rattle.placing.specs.Checking.{lengthRefusal}
 use Rattle.placing.proofs.CheckLaws.{lengths, length-right}
 use Rattle.search.specs.Rule.{thereAt, tryAt, searchAt, searchOf, fromClosed}
 use Rattle.search.specs.Answers.{Said, saidPlaced, saidNone, saidGaveUp, saidOf, searchRefusal, saidBy, roomBy, Looks}
-use Rattle.search.specs.Steps.{saidWith, Shows, answerWith, answerOf, Searched}
+use Rattle.quick.specs.Steps.{ClosedGrid}
+use Rattle.search.specs.Steps.{saidWith, Shows, answerWith, answerOf}
 use Rattle.search.specs.declared.Looked.{Looked}
 use Rattle.search.specs.declared.Outcome.{Outcome}
 use Rattle.search.specs.declared.Outcome.the-variants as Outcome
@@ -51,7 +52,7 @@ module _ (n allowance : ℕ) (g : List ℕ) where
   search-from t q = ap (fromClosed n allowance) (sym q)
 
 -- the grid that the first closing leaves
-pub first-searched : (n : ℕ) (g : List ℕ) → Accepted n g → (e : End) (v : ℕ) (h : List ℕ) → triedBy (ended e h) ≡ closesTo allen n g → e ≡ Closed v → Searched n h
+pub first-searched : (n : ℕ) (g : List ℕ) → Accepted n g → (e : End) (v : ℕ) (h : List ℕ) → triedBy (ended e h) ≡ closesTo allen n g → e ≡ Closed v → ClosedGrid n h
 first-searched n g a e v h q is = whole-searched n h (first-whole n g a h (sym q ∙ a-grid e v h is))
 
 said-with : (o : Outcome) (t : ℕ) → saidOf (answerWith o t) ≡ answers (saidWith o t)

@@ -10,33 +10,35 @@ use native.Mathlib.Omega.{arith}
 use borrow.Author.Tests.{ne-eqb}
 use lib.Count.{trailingZeros}
 use lib.IntN.{ℤ}
+use lib.Pow.{pow-pos}
 use lib.ListN.{length}
 use types.Run.{OneOf}
 use denote.Enum.Declared.{tagOf}
 use Rattle.relation.specs.Sets.{member}
+use Rattle.relation.proofs.Tested.{T-of}
 use Rattle.relation.proofs.SetLaws.{member-mark}
 use Rattle.relation.proofs.LowestLaws.{Lowest, lowest-thirteen, mark-le}
 use Rattle.relation.specs.Composition.{converse}
 use Rattle.grid.specs.Cells.{cell, putBoth}
-use Rattle.theory.specs.Search.{Pair, emptied, closed, Found, placed, none, gaveUp, orNext, searchFrom, pairsFrom}
-use Rattle.theory.specs.Tried.{enough, triedBy}
+use Rattle.theory.specs.Search.{Pair, emptied, closed, closesTo, Found, placed, none, gaveUp, orNext, searchFrom, pairsFrom}
+use Rattle.theory.specs.Tried.{triedBy}
 use Rattle.theory.specs.Allen.{allen}
-use Rattle.theory.specs.Line.{pairOf}
-use Rattle.theory.specs.Quick.{run}
+use Rattle.theory.proofs.PlacedLaws.{mark-inside}
 use Rattle.takes.specs.Steps.{ended}
 use Rattle.takes.specs.declared.End.{End}
 use Rattle.takes.specs.declared.End.the-variants.{Contradiction, Closed, Paused}
 use Rattle.takes.proofs.End.{the-type as end-type}
 use Rattle.search.specs.Rule.{thereAt, tryAt, searchAt}
 use Rattle.search.specs.Answers.{saidBy, roomBy}
-use Rattle.search.specs.Steps.{saidWith, Shows, Settles, Searched, Triable, AtCell, Stands, Steps, Passes, goesOn, after}
+use Rattle.quick.specs.Steps.{ClosedGrid, Cuttable}
+use Rattle.search.specs.Steps.{saidWith, Shows, Settles, Triable, AtCell, Stands, Steps, Passes, goesOn, after}
 use Rattle.search.specs.declared.Looked.{Looked}
 use Rattle.search.specs.declared.Stand.{Stand}
 use Rattle.search.specs.declared.Outcome.{Outcome}
 use Rattle.search.specs.declared.Outcome.the-variants.{Placed, None, GaveUp}
 use Rattle.search.proofs.Outcome.{the-type as outcome-type}
 use Rattle.search.proofs.RuleLaws.{from, from-closed, from-emptied, from-alone, at-next, after-next}
-use Rattle.search.proofs.TryRight.{searched-whole, whole-searched, try-same, try-short, try-whole}
+use Rattle.search.proofs.TryRight.{searched-whole, whole-searched, try-same, try-whole}
 
 -- ---- the cell that is read
 
@@ -72,20 +74,29 @@ no-grid (Paused t) g h = refl
 pub a-grid : (e : End) (t : ℕ) (g : List ℕ) → e ≡ Closed t → triedBy (ended e g) ≡ closed g
 a-grid e t g q = ap (λ (x : End). triedBy (ended x g)) q
 
--- its events are two of n
-pub triable-apart : (n i j r : ℕ) (g : List ℕ) → Triable n i j r g → (i < n) × (i ≡ j → ⊥)
-triable-apart n i j r g T = (omega (arith, T .upper, T .inside), λ e. omega (arith, T .upper))
-
 -- the grid that a try leaves
-pub next-searched : (n i j r v : ℕ) (g g' : List ℕ) (e : End) → Triable n i j r g → triedBy (ended e g') ≡ tryAt n (i, j) r g → e ≡ Closed v → Searched n g'
+pub next-searched : (n i j r v : ℕ) (g g' : List ℕ) (e : End) → Triable n i j r g → triedBy (ended e g') ≡ tryAt n (i, j) r g → e ≡ Closed v → ClosedGrid n g'
 next-searched n i j r v g g' e T tried ends =
     whole-searched n g'
-    (try-whole n (i, j) r g (T .upper, T .inside) (T .relation) (T .there) (searched-whole n g (T .searched)) g' (sym tried ∙ a-grid e v g' ends))
+    (try-whole n (i, j) r g (T .upper, T .inside) (T .relation) (T .there) (searched-whole n g (T .grid)) g' (sym tried ∙ a-grid e v g' ends))
 
--- the takes from the one pair that was cut are the try
-pub try-made : (n i j r : ℕ) (g : List ℕ) → Triable n i j r g
-    → triedBy (run allen n enough 0 (putBoth converse n g i j (2 ^ r)) (pairOf i j ∷ [])) ≡ tryAt n (i, j) r g
-try-made n i j r g T = sym (try-short n (i, j) r g (T .upper, T .inside) (T .relation) (T .there) (searched-whole n g (T .searched)))
+-- the pair can be cut to that relation, and what closing leaves then is the try
+pub triable-cut : (n i j r v : ℕ) (g : List ℕ) → v ≡ 2 ^ r → Triable n i j r g → Cuttable n i j v g
+unfolding thereAt
+triable-cut n i j r v g e T =
+    subst (λ (x : ℕ). Cuttable n i j x g) (sym e)
+    (record {
+      grid = T .grid;
+      from = omega (arith, T .upper, T .inside);
+      to = T .inside;
+      apart = λ q. omega (arith, T .upper);
+      inside = mark-inside r (cell n g i j) (T .relation) (T-of (T .there));
+      some = λ z. omega (arith, pow-pos r);
+    })
+
+pub try-made : (n i j r v : ℕ) (g : List ℕ) → v ≡ 2 ^ r → closesTo allen n (putBoth converse n g i j v) ≡ tryAt n (i, j) r g
+unfolding tryAt
+try-made n i j r v g e = ap (λ (x : ℕ). closesTo allen n (putBoth converse n g i j x)) e
 
 -- ---- what the cells after this one came to
 
@@ -159,11 +170,11 @@ stands-in n a s w h =
     (omega (arith, w .at .upper), m, λ e. omega (arith, w .at .upper))
 
 -- where a try can be made
-pub triable : (n a r : ℕ) (g : List ℕ) (s : Stand) → Searched n g → Stands n a s → 0 < s .left → r < 13 → thereAt n (s .i, s .j) r g ≡ true → Triable n (s .i) (s .j) r g
-triable n a r g s S w h lt is = record { searched = S; upper = w .at .upper; inside = w .at .more h; relation = lt; there = is }
+pub triable : (n a r : ℕ) (g : List ℕ) (s : Stand) → ClosedGrid n g → Stands n a s → 0 < s .left → r < 13 → thereAt n (s .i, s .j) r g ≡ true → Triable n (s .i) (s .j) r g
+triable n a r g s S w h lt is = record { grid = S; upper = w .at .upper; inside = w .at .more h; relation = lt; there = is }
 
 -- and is not empty
-pub cell-some : (n : ℕ) (g : List ℕ) → Searched n g → (i j : ℕ) → i < n → j < n → (set : ℕ) → set ≡ cell n g i j → 0 < set
+pub cell-some : (n : ℕ) (g : List ℕ) → ClosedGrid n g → (i j : ℕ) → i < n → j < n → (set : ℕ) → set ≡ cell n g i j → 0 < set
 cell-some n g S i j hi hj set is = go (ℕ-discrete set 0)
   where
     go : Dec (set ≡ 0) → 0 < set
@@ -186,7 +197,7 @@ module _ (n : ℕ) (at s : Stand) (t : ℕ) (steps : Steps n at t s) where
 
 -- ---- cells that have one relation alone
 
-module _ (n a : ℕ) (g : List ℕ) (S : Searched n g) (at s : Stand) (stands : Stands n a at) (more : 0 < at .left) (fresh : at .tries ≡ a → ⊥) (steps : Steps n at (at .tries + 1) s) (set : ℕ) (is : set ≡ cell n g (at .i) (at .j)) (alone : set - 2 ^ trailingZeros 16 set ≡ 0) where
+module _ (n a : ℕ) (g : List ℕ) (S : ClosedGrid n g) (at s : Stand) (stands : Stands n a at) (more : 0 < at .left) (fresh : at .tries ≡ a → ⊥) (steps : Steps n at (at .tries + 1) s) (set : ℕ) (is : set ≡ cell n g (at .i) (at .j)) (alone : set - 2 ^ trailingZeros 16 set ≡ 0) where
   abbrev r : ℕ
   r = trailingZeros 16 set
 

@@ -3,32 +3,16 @@ use mathlib.Core.Path.{_≡_, refl, sym, ap, ap₂, subst, _∙_}
 use mathlib.Core.Bool.{Bool, true, false}
 use mathlib.Core.Logic.{⊎-elim}
 use mathlib.Core.List.{List, [], _∷_, _++_}
-use Prim.Native.Nat.{ℕ, zero, suc, _+_, _-_, _*_, _/_, _^_, _≤_, _<_}
+use Prim.Native.Nat.{ℕ, zero, suc, _+_, _-_, _*_, _/_, _≤_, _<_}
 use native.Mathlib.Nat.{mul-le-mul, eq-or-lt-of-le, le-mul-of-pos-right, zero-lt-suc}
 use native.Mathlib.Omega.{arith}
 use native.Mathlib.Decide.{decLt}
 use borrow.Author.Tests.{eq-eqb, ne-eqb, lt-ltb, le-ltb}
-use lib.Count.{ones}
 use lib.Dec.{T, eqb, eqb→eq}
 use lib.IntN.{ℤ}
 use lib.ListN.{length}
-use lib.Pow.{pow-pos}
-use Rattle.relation.specs.Composition.{converse}
 use Rattle.relation.proofs.Tested.{all, all-at}
-use Rattle.relation.proofs.SetLaws.{mark-lt}
-use Rattle.relation.proofs.ExchangeLaws.{converse-lt, converse-twice}
-use Rattle.grid.specs.Cells.{putBoth}
-use Rattle.theory.specs.Fair.{Fair}
-use Rattle.theory.specs.Allen.{allen}
-use Rattle.theory.specs.Line.{pairOf, allPairs, joins, occurs}
-use Rattle.theory.proofs.AllenLaws.{lawful, of-sets, eq-lawful, sized, top-lt}
-use Rattle.theory.proofs.ClosesLaws.{closes-all}
-use Rattle.theory.proofs.FairLaws.{put-fair}
-use Rattle.theory.proofs.MeetLaws.{sub-top}
-use Rattle.theory.proofs.QuickLaws.{going-grid}
-use Rattle.theory.specs.Quick.{Out, going, Ended, contradiction, goOn, run}
-use Rattle.theory.specs.Tried.{enough, triedBy}
-use Rattle.theory.specs.Search.{Pair, Tried, emptied, closed, closesTo, Found, placed, none, gaveUp, orNext, turnOf, relationsFrom, row, rows, pairsFrom}
+use Rattle.theory.specs.Search.{Pair, Tried, emptied, closed, Found, placed, none, gaveUp, orNext, turnOf, relationsFrom, row, rows, pairsFrom}
 use Rattle.placing.specs.Settling.{settles, Settled}
 use Rattle.search.specs.Steps.{saidWith, Settles, AtCell, after}
 use Rattle.search.specs.declared.Looked.{Looked}
@@ -119,31 +103,6 @@ at-first n h =
 pub square : (n : ℕ) → n ≤ 32 → (n ≤ n * n) × (n * n ≤ 1024)
 square zero h = (omega arith, omega arith)
 square (suc n) h = (le-mul-of-pos-right (suc n) (zero-lt-suc n), mul-le-mul {n₂ = 32} {m₂ = 32} h h)
-
--- ---- one try
-
-joins-alone : (p : ℕ) → joins p [] ≡ p ∷ []
-unfolding joins occurs
-joins-alone p = refl
-
--- the takes from all pairs close a grid
-pub closes-by-takes : (n : ℕ) (g : List ℕ) → Fair allen n g → length g ≡ n * n → closesTo allen n g ≡ triedBy (run allen n enough 0 g (allPairs n))
-closes-by-takes n g F long = closes-all allen lawful eq-lawful of-sets n ones sized (λ i j. top-lt) g F long
-
--- the takes after the cut was written are those from the one pair
-pub takes-one : (n i j r v : ℕ) (g h q w : List ℕ) (e : Ended) → going h q ≡ going (putBoth converse n g i j v) (joins (pairOf i j) w) → v ≡ 2 ^ r → w ≡ []
-    → e ≡ run allen n enough 0 h q → triedBy e ≡ triedBy (run allen n enough 0 (putBoth converse n g i j (2 ^ r)) (pairOf i j ∷ []))
-takes-one n i j r v g h q w e a b z f =
-    ap triedBy
-    (f ∙ ap (λ (o : Out). goOn o (contradiction 0) (run allen n enough 0)) a ∙ ap (λ (x : ℕ). run allen n enough 0 (putBoth converse n g i j x) (joins (pairOf i j) w)) b
-    ∙ ap (run allen n enough 0 (putBoth converse n g i j (2 ^ r))) (ap (joins (pairOf i j)) z ∙ joins-alone (pairOf i j)))
-
--- the cell and its mirror cut to one relation, as they were written
-pub written-fair : (n i j r v : ℕ) (g h q q' : List ℕ) → Fair allen n g → i < n → j < n → (i ≡ j → ⊥) → r < 13 → going h q ≡ going (putBoth converse n g i j v) q' → v ≡ 2 ^ r → Fair allen n h
-written-fair n i j r v g h q q' F hi hj ne hr e m =
-    subst (Fair allen n) (sym (going-grid _ _ _ _ e ∙ ap (putBoth converse n g i j) m))
-    (put-fair allen lawful n g F i j hi hj ne (2 ^ r) (sub-top (2 ^ r) (omega (arith, mark-lt r hr))) (sub-top (converse (2 ^ r)) (omega (arith, converse-lt (2 ^ r))))
-    (converse-twice (2 ^ r) (mark-lt r hr)) (λ z. omega (arith, pow-pos r, z)))
 
 -- ---- past the last cell
 

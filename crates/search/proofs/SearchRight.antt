@@ -40,7 +40,7 @@ use Rattle.search.specs.Rule.{thereAt, tryAt, searchAt, searchOf, fromCl
 use Rattle.search.specs.Answers.{saidOf, saidBy, roomBy, ScenarioOf, FirstPlacing, Meant}
 use Rattle.search.specs.declared.PlaceAnswer.{PlaceAnswer}
 use Rattle.search.specs.declared.PlaceAnswer.the-variants.{Placed, None, GaveUp, Refused}
-use Rattle.search.proofs.RuleLaws.{closes-by-takes}
+use Rattle.quick.proofs.PairLaws.{closes-by-takes}
 use Rattle.search.proofs.TryRight.{Upper, Whole, Ready, searchable}
 
 -- ---- the cells in order are all cells above the diagonal

@@ -31,7 +31,6 @@ use Rattle.theory.specs.Search.{Pair, emptied, closed, closesTo}
 use Rattle.theory.specs.Tried.{enough, triedBy}
 use Rattle.theory.proofs.AllenLaws.{lawful, of-sets, eq-lawful, sized, top-lt}
 use Rattle.theory.proofs.ClosingLaws.{sub-trans}
-use Rattle.theory.proofs.GivenLaws.{fine}
 use Rattle.theory.proofs.KeepLaws.{Good}
 use Rattle.theory.proofs.FairLaws.{good-fair}
 use Rattle.theory.proofs.LargestLaws.{closes-same}
@@ -41,10 +40,11 @@ use Rattle.theory.proofs.TakeLaws.{LeavesLong, run-long}
 use Rattle.theory.proofs.TryLaws.{cut-inside, resting, try-right}
 use Rattle.theory.proofs.PlacedLaws.{member-only, mark-inside, inside-mark, only-mark, Uses, meets-uses, uses-meets, uses-more, closing-uses, closes-some}
 use Rattle.theory.proofs.SearchLaws.{Searchable}
+use Rattle.quick.proofs.PairLaws.{closed-fair}
 use Rattle.placing.specs.Settling.{settles}
 use Rattle.placing.proofs.SettleLaws.{Decided, settled-meets, unsettled-none}
 use Rattle.search.specs.Rule.{thereAt, tryAt}
-use Rattle.search.specs.Steps.{Searched}
+use Rattle.quick.specs.Steps.{ClosedGrid}
 
 -- ---- the grids that are searched
 
@@ -73,13 +73,10 @@ among-some here = omega arith
 among-some (there w) = omega (arith, among-some w)
 
 -- the grid that the code holds
-pub searched-fair : (n : ℕ) (g : List ℕ) → Searched n g → Fair allen n g
-searched-fair n g S = record { fine = fine n g (S .accepted); full = S .full }
+pub searched-whole : (n : ℕ) (g : List ℕ) → ClosedGrid n g → Whole n g
+searched-whole n g S = record { fair = closed-fair n g S; closed = S .closed; long = S .accepted .long }
 
-pub searched-whole : (n : ℕ) (g : List ℕ) → Searched n g → Whole n g
-searched-whole n g S = record { fair = searched-fair n g S; closed = S .closed; long = S .accepted .long }
-
-pub whole-searched : (n : ℕ) (g : List ℕ) → Whole n g → Searched n g
+pub whole-searched : (n : ℕ) (g : List ℕ) → Whole n g → ClosedGrid n g
 whole-searched n g W =
     record {
       accepted =
@@ -95,7 +92,7 @@ whole-searched n g W =
     }
 
 -- a try with the one relation that is there cuts nothing
-pub try-same : (n i j r : ℕ) (g : List ℕ) → Searched n g → i < n → j < n → cell n g i j ≡ 2 ^ r → tryAt n (i, j) r g ≡ closed g
+pub try-same : (n i j r : ℕ) (g : List ℕ) → ClosedGrid n g → i < n → j < n → cell n g i j ≡ 2 ^ r → tryAt n (i, j) r g ≡ closed g
 unfolding tryAt
 try-same n i j r g S hi hj e =
     ap (closesTo allen n) (putBoth-same converse n g i j (2 ^ r) (sym e) (ap converse (sym e) ∙ sym (S .accepted .mirrored i j hi hj)))

@@ -6,13 +6,9 @@ use Prim.Native.Nat.{ℕ, _+_, _-_, _≤_, _<_}
 use lib.Dec.{ltb}
 use lib.IntN.{ℤ}
 use lib.ListN.{length}
-use Rattle.grid.specs.Cells.{cell}
-use Rattle.grid.specs.Accepted.{Accepted}
-use Rattle.theory.specs.Fair.{Full}
-use Rattle.theory.specs.Allen.{allen}
-use Rattle.theory.specs.Closing.{Closed}
 use Rattle.theory.specs.Search.{Pair, Found, pastLast, pairsFrom}
 use Rattle.placing.specs.Settling.{settles}
+use Rattle.quick.specs.Steps.{ClosedGrid}
 use Rattle.search.specs.Rule.{thereAt, searchAt}
 use Rattle.search.specs.Answers.{Said, saidPlaced, saidNone, saidGaveUp, saidBy, roomBy}
 use Rattle.search.specs.declared.Outcome.{Outcome}
@@ -48,15 +44,9 @@ pub record Settles (n t : ℕ) (g : List ℕ) (room : List ℤ) (l : Looked) (ro
   pub room-after : room' ≡ roomBy n (pastLast (settles n g) t g) room
   pub tries : l .tries ≡ t
 
--- a grid that the search goes on from: accepted, with no empty cell, and closed
-pub record Searched (n : ℕ) (g : List ℕ) : Type 0 where
-  pub accepted : Accepted n g
-  pub full : Full n g
-  pub closed : Closed allen n (cell n g)
-
--- a try: relation r is there in a cell (i, j) of a grid that is searched
+-- a try: relation r is there in a cell (i, j) of a closed grid
 pub record Triable (n i j r : ℕ) (g : List ℕ) : Type 0 where
-  pub searched : Searched n g
+  pub grid : ClosedGrid n g
   pub upper : i < j
   pub inside : j < n
   pub relation : r < 13

@@ -10,16 +10,13 @@ ghost use Rattle.theory.specs.Search.{closesTo};
 ghost use Rattle.theory.specs.Tried.{triedBy};
 ghost use Rattle.takes.specs.Waiting.{Idle};
 ghost use Rattle.takes.specs.Steps.{ended};
+ghost use Rattle.quick.specs.Steps.{ClosedGrid};
 ghost use Rattle.search.specs.Rule.{tryAt};
 ghost use Rattle.search.specs.Answers.{searchRefusal, Looks};
-ghost use Rattle.search.specs.Steps.{Shows, Settles, answerOf, Searched, Triable, Stands, Steps, Passes, goesOn, after};
+ghost use Rattle.search.specs.Steps.{Shows, Settles, answerOf, Triable, Stands, Steps, Passes, goesOn, after};
 use grid::Judged;
 use refusal::Refusal;
 use takes::End;
-use takes::Line;
-
-// So many takes always suffice to close a grid.
-const ENOUGH: usize = 6448;
 
 // Placed or none with the tries made, gave up with the allowance, or a refusal.
 pub enum PlaceAnswer {
@@ -90,7 +87,7 @@ fn step(n: usize, at: Stand, tries: u32) -> Stand
 
 // Passes over the cells that have one relation alone, each for one try: on a closed grid such a try cuts nothing.
 fn pass_decided(g: &[u16], n: usize, from: Stand, allowance: u32) -> Stand
-    requires { ⌜ Stands n allowance from × Searched n (now g) ⌝ }
+    requires { ⌜ Stands n allowance from × ClosedGrid n (now g) ⌝ }
     ensures { λ s. ⌜ Passes n allowance (now (g .entry)) from s ⌝ }
 {
     let mut at = from;
@@ -107,27 +104,8 @@ fn pass_decided(g: &[u16], n: usize, from: Stand, allowance: u32) -> Stand
     at
 }
 
-// One try: cuts cell (i, j) and its mirror to relation r, and closes from that pair. Nothing waits before or afterwards.
+// One try: cuts cell (i, j) and its mirror to relation r on a copy of the grid, at the front of a room for a grid, and closes it there.
 fn attempt(
-    ring: &mut [u16; 1024],
-    flag: &mut [u8; 1024],
-    g: &mut [u16],
-    n: usize,
-    i: usize,
-    j: usize,
-    r: usize,
-) -> End
-    requires { ⌜ Idle n (now ring) (now flag) × Triable n i j r (now g) ⌝ }
-    ensures tried { λ e. ⌜ triedBy (ended e (now (g .exit))) ≡ tryAt n (i, j) r (now (g .entry)) ⌝ }
-    ensures idle { λ e. ⌜ Idle n (now (ring .exit)) (now (flag .exit)) ⌝ }
-{
-    let none = Line { head: 0, len: 0 };
-    let one = takes::write_cut(g, ring, flag, n, none, i, j, relation::mark(r));
-    takes::takes(g, ring, flag, n, one, ENOUGH)
-}
-
-// One try on a copy of the grid, at the front of a room for a grid.
-fn attempt_in(
     ring: &mut [u16; 1024],
     flag: &mut [u8; 1024],
     g: &[u16],
@@ -143,7 +121,8 @@ fn attempt_in(
 {
     let cells = n * n;
     grid::copy(cut, g, cells);
-    attempt(ring, flag, &mut cut[..cells], n, i, j, r)
+    let set = relation::mark(r);
+    quick::close_pair(ring, flag, &mut cut[..cells], n, i, j, set)
 }
 
 // Decides the cells of a closed grid from a stand on. Past the last, the placing is written to the room.
@@ -156,7 +135,7 @@ fn look(
     allowance: u32,
     room: &mut [i32],
 ) -> Looked
-    requires { ⌜ Idle n (now ring) (now flag) × Stands n allowance from × Searched n (now g) × (length (now room) ≡ 2 * n) ⌝ }
+    requires { ⌜ Idle n (now ring) (now flag) × Stands n allowance from × ClosedGrid n (now g) × (length (now room) ≡ 2 * n) ⌝ }
     ensures shows { λ l. ⌜ Shows n allowance (goesOn n allowance (now (g .entry)) from) (now (room .entry)) l (now (room .exit)) ⌝ }
     ensures idle { λ l. ⌜ Idle n (now (ring .exit)) (now (flag .exit)) ⌝ }
 {
@@ -174,7 +153,7 @@ fn look(
                 return came_to(Outcome::GaveUp, used);
             }
             used += 1;
-            let answer = attempt_in(ring, flag, g, &mut work, n, at.i, at.j, r);
+            let answer = attempt(ring, flag, g, &mut work, n, at.i, at.j, r);
             let End::Closed(_takes) = answer else {
                 r += 1;
                 continue;
@@ -204,16 +183,6 @@ fn settled(g: &[u16], n: usize, tries: u32, room: &mut [i32]) -> Looked
     }
 }
 
-// Closes a grid from the list of all pairs.
-fn close_all(ring: &mut [u16; 1024], flag: &mut [u8; 1024], g: &mut [u16], n: usize) -> End
-    requires { ⌜ Idle n (now ring) (now flag) × (length (now g) ≡ n * n) × Fair allen n (now g) ⌝ }
-    ensures closed { λ e. ⌜ triedBy (ended e (now (g .exit))) ≡ closesTo allen n (now (g .entry)) ⌝ }
-    ensures idle { λ e. ⌜ Idle n (now (ring .exit)) (now (flag .exit)) ⌝ }
-{
-    let all = quick::all_waiting(ring, flag, n);
-    takes::takes(g, ring, flag, n, all, ENOUGH)
-}
-
 // Copies a grid to the front of a working grid, and closes it there.
 fn close_copy(
     ring: &mut [u16; 1024],
@@ -228,7 +197,7 @@ fn close_copy(
 {
     let cells = n * n;
     grid::copy(work, g, cells);
-    close_all(ring, flag, &mut work[..cells], n)
+    quick::close_all(ring, flag, &mut work[..cells], n)
 }
 
 // The search's end as an answer.

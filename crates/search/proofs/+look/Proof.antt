@@ -19,7 +19,7 @@ use Rattle.search.proofs.look.Kinds as look-kinds
 use Rattle.search.proofs.+look.Lts-look as look-lts
 use Rattle.grid.proofs.get.Reads as get-reads
 use Rattle.relation.proofs.has.Reads as has-reads
-use Rattle.search.proofs.attempt_in.Reads as attempt-in-reads
+use Rattle.search.proofs.attempt.Reads as attempt-reads
 use Rattle.search.proofs.came_to.Reads as came-to-reads
 use Rattle.search.proofs.pass_decided.Reads as pass-decided-reads
 use Rattle.search.proofs.settled.Reads as settled-reads
@@ -50,8 +50,8 @@ claims t = (
   has-reads.Learnt,
   came-to-reads.Asked,
   came-to-reads.Learnt,
-  attempt-in-reads.Asked,
-  attempt-in-reads.Learnt,
+  attempt-reads.Asked,
+  attempt-reads.Learnt,
   step-reads.Asked,
   step-reads.Learnt,
   look-below t,
@@ -126,11 +126,11 @@ look-returns-2 t c =
 look-add-used : (t : ℕ) → look-lts.Need-add-used (claims t) (look-at t) look.Post look-Inv-loop look-μ-loop
 look-add-used t c = search needs
 
-look-slice-aggregate-attempt-in : (t : ℕ) → look-lts.Need-slice-aggregate-attempt-in (claims t) (look-at t) look.Post look-Inv-loop look-μ-loop
-look-slice-aggregate-attempt-in t c = sym (c .before .before .before .before .before .before .before .before .loop .inv .5)
+look-slice-aggregate-attempt : (t : ℕ) → look-lts.Need-slice-aggregate-attempt (claims t) (look-at t) look.Post look-Inv-loop look-μ-loop
+look-slice-aggregate-attempt t c = sym (c .before .before .before .before .before .before .before .before .loop .inv .5)
 
-look-attempt-in-requires : (t : ℕ) → look-lts.Need-attempt-in-requires (claims t) (look-at t) look.Post look-Inv-loop look-μ-loop
-look-attempt-in-requires t c κs =
+look-attempt-requires : (t : ℕ) → look-lts.Need-attempt-requires (claims t) (look-at t) look.Post look-Inv-loop look-μ-loop
+look-attempt-requires t c κs =
     let L = c .before .before .before .before .before .before .before .before in
     let I = L .before in
     let s = I .before .before .before .before .pre .1 in
@@ -152,7 +152,7 @@ look-loop-less t c = search needs
 
 look-loop-again : (t : ℕ) → look-lts.Need-loop-again (claims t) (look-at t) look.Post look-Inv-loop look-μ-loop
 look-loop-again t c =
-    let tried = c .before .before .attempt-in in
+    let tried = c .before .before .attempt in
     let U = c .before .before .before .before .before .before .before in
     let L = U .before .before .before .before in
     let v = L .loop .inv in
@@ -176,17 +176,17 @@ look-step-requires t c κs =
 look-array-share-prefix-work : (t : ℕ) → look-lts.Need-array-share-prefix-work (claims t) (look-at t) look.Post look-Inv-loop look-μ-loop
 look-array-share-prefix-work t c =
     let L = c .before .before .before .before .before .before .before .before .before .before .before .before .before .before .before .before in
-    omega (arith, c .before .before .before .before .before .before .before .attempt-in .kept .1 .1 .1 .0, L .loop .inv .5, square _ (L .before .before .before .before .before .pre .1 .1 .at .few) .1)
+    omega (arith, c .before .before .before .before .before .before .before .attempt .kept .1 .1 .1 .0, L .loop .inv .5, square _ (L .before .before .before .before .before .pre .1 .1 .at .few) .1)
 
 look-slice-aggregate-look : (t : ℕ) → look-lts.Need-slice-aggregate-look (claims t) (look-at t) look.Post look-Inv-loop look-μ-loop
 look-slice-aggregate-look t c =
     let L = c .before .before .before .before .before .before .before .before .before .before .before .before .before .before .before .before .before in
-    sym (length-take-le _ _ (omega (arith, c .before .before .before .before .before .before .before .before .attempt-in .kept .1 .1 .1 .0, L .loop .inv .5, square _ (L .before .before .before .before .before .pre .1 .1 .at .few) .1)))
+    sym (length-take-le _ _ (omega (arith, c .before .before .before .before .before .before .before .before .attempt .kept .1 .1 .1 .0, L .loop .inv .5, square _ (L .before .before .before .before .before .pre .1 .1 .at .few) .1)))
 
 look-look-requires : (t : ℕ) → look-lts.Need-look-requires (claims t) (look-at t) look.Post look-Inv-loop look-μ-loop
 look-look-requires t c κs =
     let stepped = c .before .before .before .before .step .ensures in
-    let tried = c .before .before .before .before .before .before .before .before .before .attempt-in in
+    let tried = c .before .before .before .before .before .before .before .before .before .attempt in
     let U = c .before .before .before .before .before .before .before .before .before .before .before .before .before .before in
     let L = U .before .before .before .before in
     let v = L .loop .inv in
@@ -220,7 +220,7 @@ look-returns-3 t c =
     let there = there-is _ _ _ _ _ _ _ _ (U .before .before .get .ensures) (U .before .has .ensures) (U .if2 .taken) in
     let next = shows-next _ _ _ _ (c .before .before .before .before .before .before .before .step .ensures) _ _ _ _ _ (below .0) in (
       shows-passed _ _ _ _ _ _ _ _ (L .before .before .before .pass-decided .ensures)
-          (turn-kept _ _ _ _ _ _ _ _ _ (U .before .before .before .loop-test .taken) there (c .before .before .before .before .before .before .before .before .before .before .before .before .before .before .before .before .if3 .left) (c .before .before .before .before .before .before .before .before .before .before .before .before .attempt-in .ensures .0) _ _ _ _ (c .before .before .before .before .before .before .before .before .before .answer .given .1) next (c .match2 .keys2) _ _ (v .3) (v .2)),
+          (turn-kept _ _ _ _ _ _ _ _ _ (U .before .before .before .loop-test .taken) there (c .before .before .before .before .before .before .before .before .before .before .before .before .before .before .before .before .if3 .left) (c .before .before .before .before .before .before .before .before .before .before .before .before .attempt .ensures .0) _ _ _ _ (c .before .before .before .before .before .before .before .before .before .answer .given .1) next (c .match2 .keys2) _ _ (v .3) (v .2)),
       below .1,
     )
 
@@ -289,8 +289,8 @@ pub +look-spec : {M : Type 1} → statement M
     (look-same-length-2 t)
     (look-returns-2 t)
     (look-add-used t)
-    (look-slice-aggregate-attempt-in t)
-    (look-attempt-in-requires t)
+    (look-slice-aggregate-attempt t)
+    (look-attempt-requires t)
     (look-enum-known-answer t)
     (look-add-r t)
     (look-loop-less t)

@@ -2,10 +2,10 @@
 use mathlib.Core.Path.{sym, ap, _∙_}
 use Rattle.theory.specs.Quick.{run}
 use Rattle.theory.specs.Tried.{triedBy}
-use Rattle.search.proofs.RuleLaws.{closes-by-takes}
+use Rattle.quick.proofs.PairLaws.{closes-by-takes}
 use borrow.Author.Needs.{needs}
-use Rattle.search.proofs.close_all.Statement.{statement}
-use Rattle.search.proofs.close_all.Tie as tie
+use Rattle.quick.proofs.close_all.Statement.{statement}
+use Rattle.quick.proofs.close_all.Tie as tie
 
 all-waiting-requires : tie.Need-all-waiting-requires
 all-waiting-requires c κs = search needs
