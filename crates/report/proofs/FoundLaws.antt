@@ -10,8 +10,9 @@ use lib.ListN.{length}
 use borrow.Author.Tests.{eq-eqb}
 use Rattle.grid.specs.Accepted.{Accepted, cellRefusal}
 use Rattle.grid.proofs.AcceptedLaws.{never-refused, first-next}
-use Rattle.sheet.specs.Sheet.{Statement, Outcome, refused, accepted}
-use Rattle.sheet.specs.Grid.{gridOf}
+use Rattle.statements.specs.Statements.{Statement}
+use Rattle.statements.specs.Grid.{gridOf}
+use Rattle.sheet.specs.Sheet.{Outcome, refused, accepted}
 use Rattle.theory.specs.Search.{Found, placed, none, gaveUp}
 use Rattle.placing.specs.Checking.{lengthRefusal}
 use Rattle.placing.proofs.CheckLaws.{length-right}

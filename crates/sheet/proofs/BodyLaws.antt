@@ -1,5 +1,5 @@
--- Laws of the bodies: a line by itself, a line of an event's body, the reading of all bodies, and their cuts. Assumes nothing.
-use mathlib.Core.Path.{_≡_, refl, sym, _∙_}
+-- Laws of the bodies: a line by itself, a line of an event's body, and the reading of all bodies. Assumes nothing.
+use mathlib.Core.Path.{_≡_, sym, _∙_}
 use mathlib.Core.Bool.{Bool, true, false, cond}
 use mathlib.Core.List.{List, [], _∷_, _++_}
 use Prim.Native.Nat.{ℕ, suc, _+_, _-_, _≤_, _<_}
@@ -17,18 +17,10 @@ use Rattle.text.specs.Steps.{PartEnd}
 use Rattle.text.proofs.PartLaws.{part-length, split-some, drop-take}
 use Rattle.text.proofs.TextLaws.{and-false}
 use Rattle.words.specs.Words.{joined, areWords, union}
-use Rattle.grid.proofs.CellLaws.{putBoth-length}
-use Rattle.relation.specs.Composition.{converse}
-use Rattle.sheet.specs.Sheet.{Statement, refused, accepted, lf, fields, otherIn, isStatement, find, statementFault, statementIn, owners, next, lineFault, ended, bodies}
-use Rattle.sheet.specs.Grid.{cutBy, cutAll}
+use Rattle.statements.specs.Statements.{Statement}
+use Rattle.sheet.specs.Sheet.{refused, accepted, lf, fields, otherIn, isStatement, find, statementFault, statementIn, owners, next, lineFault, ended, bodies}
 use Rattle.sheet.specs.Steps.{partsFrom, StatementIs, StatementRead}
 use Rattle.sheet.proofs.LineLaws.{line-is, line-there, line-ends, or-refused}
-
-abbrev pub st : ℕ → ℕ → ℕ → Statement
-st i u j = record { one = i; set = u; two = j }
-
-pub statement-same : {i u u′ j j′ : ℕ} → u ≡ u′ → j ≡ j′ → st i u j ≡ st i u′ j′
-statement-same p q = cc
 
 -- ---- a line by itself
 
@@ -147,19 +139,3 @@ module _ (ns : List (List ℕ)) (cs : List ℕ) (i : ℕ) (sts : List Statement)
   pub bodies-over : a < length s → bodies ns cs (owners i (drop i cs)) sts (partsFrom s a) line ≡ refused 9 line
   unfolding bodies owners
   bodies-over h = rw (drop-of-length-le cs e, not-ended-at s a h)
-
--- ---- cuts
-
-pub cut-length : (n : ℕ) (g : List ℕ) (t : Statement) → length (cutBy n g t) ≡ length g
-unfolding cutBy
-cut-length n g t = putBoth-length converse n g (t .one) (t .two) _
-
-pub cut-more : (n : ℕ) (g : List ℕ) (new : List Statement) (t : Statement) → cutAll n g (new ++ t ∷ []) ≡ cutBy n (cutAll n g new) t
-unfolding cutAll
-cut-more n g [] t = refl
-cut-more n g (x ∷ new) t = cut-more n (cutBy n g x) new t
-
-pub cut-append : (n : ℕ) (g : List ℕ) (xs ys : List Statement) → cutAll n (cutAll n g xs) ys ≡ cutAll n g (xs ++ ys)
-unfolding cutAll
-cut-append n g [] ys = refl
-cut-append n g (x ∷ xs) ys = cut-append n (cutBy n g x) xs ys

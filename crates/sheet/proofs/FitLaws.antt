@@ -8,20 +8,9 @@ use lib.Dec.{eqb, ltb}
 use lib.ListN.{length, drop, replicate, length-append}
 use borrow.Author.Tests.{eqb-true, eqb-false, ltb-true, ltb-false}
 use Rattle.text.specs.Text.{isNumber, value}
-use Rattle.sheet.specs.Sheet.{Statement, Outcome, refused, accepted, mostBytes, mostEvents, parts, firstFault, nameIn, countIn, find, listed, entryFault, otherIn, isStatement, statementFault, statementIn, owners, next, lineFault, orRefused, ended, bodies, contents, first, sheet}
-
-pub record Fits (n : ℕ) (t : Statement) : Type 0 where
-  pub one-in : t .one < n
-  pub two-in : t .two < n
-  pub apart : t .one ≡ t .two → ⊥
-
-abbrev pub AllFit : ℕ → List Statement → Type 0
-AllFit n [] = Unit
-AllFit n (t ∷ ts) = Fits n t × AllFit n ts
-
-fit-append : (n : ℕ) (ts us : List Statement) → AllFit n ts → AllFit n us → AllFit n (ts ++ us)
-fit-append n [] us p q = q
-fit-append n (t ∷ ts) us p q = (p .0, fit-append n ts us (p .1) q)
+use Rattle.statements.specs.Statements.{Statement, Fits, AllFit}
+use Rattle.statements.proofs.StatementLaws.{fit-append}
+use Rattle.sheet.specs.Sheet.{Outcome, refused, accepted, mostBytes, mostEvents, parts, firstFault, nameIn, countIn, find, listed, entryFault, otherIn, isStatement, statementFault, statementIn, owners, next, lineFault, orRefused, ended, bodies, contents, first, sheet}
 
 -- ---- the events of the statement lines
 

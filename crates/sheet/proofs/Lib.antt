@@ -2,8 +2,6 @@ pub mod LineLaws
 pub mod ContentsLaws
 pub mod BodyLaws
 pub mod FitLaws
-pub mod GridLaws
-pub mod MeantLaws
 pub mod SheetLaws
 pub mod NameLaws
 pub mod SheetRight

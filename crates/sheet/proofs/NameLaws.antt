@@ -14,7 +14,8 @@ use Rattle.text.specs.Names.{longestName, isName}
 use Rattle.text.specs.Steps.{PartEnd}
 use Rattle.text.proofs.PartLaws.{until, part-end, part-length}
 use Rattle.text.proofs.TextLaws.{both, name-length}
-use Rattle.sheet.specs.Sheet.{Statement, accepted, mostStatements, lf, space, parts, fields, field, firstFault, nameIn, countIn, isEntry, listed, entryFault, owners, next, lineFault, contents, sheet}
+use Rattle.statements.specs.Statements.{Statement}
+use Rattle.sheet.specs.Sheet.{accepted, mostStatements, lf, space, parts, fields, field, firstFault, nameIn, countIn, isEntry, listed, entryFault, owners, next, lineFault, contents, sheet}
 use Rattle.sheet.specs.Answers.{nameStart}
 use Rattle.sheet.specs.Steps.{partsFrom, Ends, Begins, Short}
 use Rattle.sheet.proofs.LineLaws.{line-is, line-missing, line-ends, begins-first, begins-next}

@@ -11,8 +11,9 @@ use Rattle.refusal.specs.Numbers.{numberOf}
 use Rattle.refusal.specs.declared.Refusal.{Refusal}
 use Rattle.text.specs.Text.{isNumber, value}
 use Rattle.text.specs.Steps.{PartEnd}
+use Rattle.statements.specs.Grid.{startGrid}
+use Rattle.statements.proofs.GridLaws.{grid-front}
 use Rattle.sheet.specs.Sheet.{Outcome, refused, mostBytes, mostEvents, lf, parts, firstFault, next, lineFault, contents, sheet}
-use Rattle.sheet.specs.Grid.{startGrid}
 use Rattle.sheet.specs.Steps.{partsFrom, tableNames, tableCounts, ContentsRead, BodiesSay, SheetRead, SheetSays}
 use Rattle.sheet.specs.declared.Table.{Table}
 use Rattle.sheet.specs.declared.SheetAnswer.{SheetAnswer}
@@ -20,7 +21,6 @@ use Rattle.sheet.specs.declared.SheetAnswer.the-variants.{Events, Refuse
 use Rattle.sheet.proofs.LineLaws.{line-is, line-missing, line-there, line-ends}
 use Rattle.sheet.proofs.ContentsLaws.{names-length}
 use Rattle.sheet.proofs.FitLaws.{bodies-fits}
-use Rattle.sheet.proofs.GridLaws.{grid-front}
 
 -- ---- the first line, which ends at e
 

@@ -8,12 +8,7 @@ use lib.ListN.{length, getD, drop, replicate}
 use Rattle.text.specs.Text.{split, isNumber, value}
 use Rattle.text.specs.Names.{isName, sameName}
 use Rattle.words.specs.Words.{joined, areWords, union}
-
--- event one to event two, with a set
-pub record Statement : Type 0 where
-  pub one : ℕ
-  pub set : ℕ
-  pub two : ℕ
+use Rattle.statements.specs.Statements.{Statement}
 
 -- refused: the refusal's number and the line; accepted: the events' names, their numbers of statements, and the statements
 pub data Outcome : Type 0 where

@@ -10,8 +10,9 @@ use denote.Ref.{RefT}
 use Rattle.refusal.specs.Numbers.{numberOf}
 use Rattle.text.specs.Text.{split}
 use Rattle.text.specs.Names.{longestName}
-use Rattle.sheet.specs.Sheet.{Statement, Outcome, refused, accepted, mostEvents, lf, parts, nameIn, countIn, isEntry, entryFault, find, setIn, otherIn, isStatement, statementFault, owners, next, lineFault, bodies, contents}
-use Rattle.sheet.specs.Grid.{cutAll, gridOf}
+use Rattle.statements.specs.Statements.{Statement}
+use Rattle.statements.specs.Grid.{cutAll, gridOf}
+use Rattle.sheet.specs.Sheet.{Outcome, refused, accepted, mostEvents, lf, parts, nameIn, countIn, isEntry, entryFault, find, setIn, otherIn, isStatement, statementFault, owners, next, lineFault, bodies, contents}
 use Rattle.sheet.specs.Answers.{bytesIn, nameStart}
 use Rattle.sheet.specs.declared.EntryForm.{EntryForm}
 use Rattle.sheet.specs.declared.EntryForm.the-variants.{Is as Entry·Is, Bad as Entry·Bad}

@@ -4,7 +4,6 @@ ghost use mathlib.Core.List.{[]};
 ghost use Prim.Native.Nat.{_+_, _*_, _≤_, _<_};
 ghost use lib.ListN.{length, take};
 ghost use Rattle.sheet.specs.Sheet.{mostEvents, find, contents, sheet};
-ghost use Rattle.sheet.specs.Grid.{startCell, startGrid, cutBy};
 ghost use Rattle.sheet.specs.Answers.{roomCells, Reads, NamePart};
 ghost use Rattle.sheet.specs.Steps.{partsFrom, Begins, EntryHas, EntrySays, StatementHas, StatementSays, namesAt, Keeps, ContentsSay, BodySays, BodiesSay, SheetSays, PartAt};
 use grid::EVENTS;
@@ -208,15 +207,6 @@ fn statement_line(
     }
 }
 
-// A statement cuts cell (i, j) to its set, and the mirror with it.
-fn cut(g: &mut [u16], n: usize, i: usize, j: usize, set: u16)
-    requires { ⌜ (n ≤ mostEvents) × (i < n) × (j < n) × (n * n ≤ length (now g)) ⌝ }
-    ensures { λ _. ⌜ now (g .exit) ≡ cutBy n (now (g .entry)) (record { one = i; set = set; two = j }) ⌝ }
-{
-    let old = grid::get(g, n, i, j);
-    grid::put_both(g, n, i, j, old & set);
-}
-
 // The body of event i: so many lines, of which the first is line first and begins at start.
 fn body_of(
     s: &[u8],
@@ -241,7 +231,7 @@ fn body_of(
                 return Place::Refused(r, first + k);
             }
             StatementLine::Says(u, j, next) => {
-                cut(g, n, i, j, u);
+                statements::cut(g, n, i, j, u);
                 a = next;
             }
         }
@@ -292,27 +282,6 @@ fn bodies_of(
     }
 }
 
-// What place p of the grid holds before any statement.
-fn start_cell(n: usize, p: usize) -> u16
-    requires { ⌜ 0 < n ⌝ }
-    ensures { λ r. ⌜ r ≡ startCell n p ⌝ }
-{
-    if p / n == p % n { grid::EQ } else { grid::ALL }
-}
-
-// Any for each pair, eq for an event to itself.
-fn fill_start(g: &mut [u16], n: usize)
-    requires { ⌜ (n ≤ mostEvents) × (n * n ≤ length (now g)) ⌝ }
-    ensures { λ _. ⌜ take (n * n) (now (g .exit)) ≡ startGrid n ⌝ }
-{
-    let m = n * n;
-    let mut p = 0;
-    while p < m {
-        g[p] = start_cell(n, p);
-        p += 1;
-    }
-}
-
 // The answer to a sheet, and its table of contents.
 pub struct Reading {
     pub table: Table,
@@ -336,7 +305,7 @@ fn lines_into(s: &[u8], n: usize, start: usize, g: &mut [u16]) -> Reading
             let at = table.at;
             let len = table.len;
             let count = table.count;
-            fill_start(g, n);
+            statements::fill_start(g, n);
             let answer = bodies_of(s, &at, &len, &count, n, next, g);
             Reading { table, answer }
         }

@@ -33,7 +33,7 @@ module _ (A : Calculus) (L : Lawful A) where
   pub sub-trans : (a b c : ℕ) → Sub A a b → Sub A b c → Sub A a c
   sub-trans a b c p q = cc (L .meet-assoc a b c)
 
-  sub-antisym : (a b : ℕ) → Sub A a b → Sub A b a → a ≡ b
+  pub sub-antisym : (a b : ℕ) → Sub A a b → Sub A b a → a ≡ b
   sub-antisym a b p q = cc (L .meet-comm a b)
 
   pub sub-meet-l : (a b : ℕ) → Sub A (A .meet a b) a
@@ -42,7 +42,7 @@ module _ (A : Calculus) (L : Lawful A) where
   pub sub-meet-r : (a b : ℕ) → Sub A (A .meet a b) b
   sub-meet-r a b = cc (L .meet-assoc a b b, L .meet-self b)
 
-  sub-meet : (d a b : ℕ) → Sub A d a → Sub A d b → Sub A d (A .meet a b)
+  pub sub-meet : (d a b : ℕ) → Sub A d a → Sub A d b → Sub A d (A .meet a b)
   sub-meet d a b p q = cc (L .meet-assoc d a b)
 
   pub sub-zero : (a : ℕ) → Sub A a 0 → a ≡ 0

@@ -5,12 +5,14 @@ use Prim.Native.Nat.{ℕ, _+_, _-_, _≤_}
 use native.Mathlib.Omega.{arith}
 use lib.ListN.{length, take, drop, getD, replicate}
 use lib.Seq.{length-take-le, getD-take}
-use Rattle.sheet.specs.Sheet.{Statement, mostEvents, owners, bodies}
-use Rattle.sheet.specs.Grid.{cutAll}
+use Rattle.statements.specs.Statements.{Statement}
+use Rattle.statements.specs.Grid.{cutAll}
+use Rattle.statements.proofs.GridLaws.{cut-append}
+use Rattle.sheet.specs.Sheet.{mostEvents, owners, bodies}
 use Rattle.sheet.specs.Steps.{partsFrom, BodyRead, BodySays, namesAt}
 use Rattle.sheet.specs.declared.Place.{Place}
 use Rattle.sheet.specs.declared.Place.the-variants.{At, Refused}
-use Rattle.sheet.proofs.BodyLaws.{bodies-cong, owners-next, bodies-done, bodies-over, cut-append}
+use Rattle.sheet.proofs.BodyLaws.{bodies-cong, owners-next, bodies-done, bodies-over}
 use borrow.Author.Needs.{needs}
 use Rattle.sheet.proofs.bodies_of.Statement.{statement}
 use Rattle.sheet.proofs.bodies_of.Tie as tie

@@ -5,13 +5,16 @@ use Prim.Native.Nat.{ℕ, suc, _+_, _-_, _≤_}
 use native.Mathlib.Omega.{arith}
 use native.Mathlib.Nat.{sub-zero}
 use lib.ListN.{length, replicate}
-use Rattle.sheet.specs.Sheet.{Statement, mostEvents, bodies}
-use Rattle.sheet.specs.Grid.{cutBy, cutAll}
+use Rattle.statements.specs.Statements.{Statement}
+use Rattle.statements.specs.Grid.{cutBy, cutAll}
+use Rattle.statements.proofs.StatementLaws.{st, statement-same}
+use Rattle.statements.proofs.GridLaws.{cut-length, cut-more}
+use Rattle.sheet.specs.Sheet.{mostEvents, bodies}
 use Rattle.sheet.specs.Steps.{partsFrom, StatementRead, StatementSays, namesAt}
 use Rattle.sheet.specs.declared.StatementLine.{StatementLine}
 use Rattle.sheet.specs.declared.StatementLine.the-variants.{Says, Stop}
 use Rattle.sheet.proofs.ContentsLaws.{names-length}
-use Rattle.sheet.proofs.BodyLaws.{st, statement-same, bodies-stop, bodies-read, bodies-cong, cut-length, cut-more}
+use Rattle.sheet.proofs.BodyLaws.{bodies-stop, bodies-read, bodies-cong}
 use borrow.Author.Needs.{needs}
 use Rattle.sheet.proofs.body_of.Statement.{statement}
 use Rattle.sheet.proofs.body_of.Tie as tie
