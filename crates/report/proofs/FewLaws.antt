@@ -8,8 +8,9 @@ use lib.IntN.{ℤ}
 use lib.ListN.{length, getD, length-append}
 use Rattle.text.specs.Text.{bytes}
 use Rattle.text.specs.Names.{longestName}
-use Rattle.sheet.specs.Sheet.{Statement, Outcome, refused, accepted, mostBytes, sheet}
-use Rattle.sheet.specs.Grid.{gridOf}
+use Rattle.statements.specs.Statements.{Statement}
+use Rattle.sheet.specs.Sheet.{Outcome, refused, accepted, mostBytes, sheet}
+use Rattle.statements.specs.Grid.{gridOf}
 use Rattle.sheet.proofs.FitLaws.{sheet-fits}
 use Rattle.sheet.proofs.NameLaws.{names-short}
 use Rattle.sheet.proofs.RefusedLaws.{sheet-few}

@@ -6,11 +6,12 @@ use Prim.Native.Nat.{ℕ}
 use native.Mathlib.Omega.{arith}
 use lib.IntN.{ℤ}
 use lib.ListN.{length}
-use Rattle.sheet.specs.Sheet.{Statement, Outcome, refused, accepted}
-use Rattle.sheet.specs.Grid.{gridOf}
+use Rattle.statements.specs.Statements.{Statement}
+use Rattle.statements.specs.Grid.{gridOf}
+use Rattle.sheet.specs.Sheet.{Outcome, refused, accepted}
 use Rattle.theory.specs.Search.{Found, placed, none, gaveUp}
 use Rattle.search.specs.Rule.{searchOf}
-use Rattle.refusal.specs.Answered.{refused, answers}
+use Rattle.refusal.specs.Answered.{answers}
 use Rattle.search.specs.Answers.{saidPlaced, saidNone, saidGaveUp, saidBy, roomBy}
 use Rattle.report.specs.Report.{placedLine, noneLine, gaveUpLine, refusedLine, eventLines, firstLine, allLines}
 use Rattle.report.specs.Steps.{foundText, textOf}

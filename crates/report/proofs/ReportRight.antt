@@ -11,11 +11,12 @@ use lib.Seq.{take-all, take-append-seam, drop-append-seam}
 use Rattle.relation.specs.Meaning.{Event}
 use Rattle.grid.specs.Accepted.{Accepted}
 use Rattle.grid.specs.Meets.{Meets}
-use Rattle.sheet.specs.Sheet.{Statement, accepted, sheet}
-use Rattle.sheet.specs.Grid.{gridOf, MeetsEach}
+use Rattle.statements.specs.Statements.{Statement}
+use Rattle.statements.specs.Grid.{gridOf, MeetsEach}
+use Rattle.statements.proofs.GridLaws.{grid-accepted}
+use Rattle.statements.proofs.MeantLaws.{meets-each}
+use Rattle.sheet.specs.Sheet.{accepted, sheet}
 use Rattle.sheet.proofs.FitLaws.{sheet-fits}
-use Rattle.sheet.proofs.GridLaws.{grid-accepted}
-use Rattle.sheet.proofs.MeantLaws.{meets-each}
 use Rattle.theory.specs.Search.{Pair, placed, none, pairsFrom, NoLater}
 use Rattle.placing.specs.Placing.{Places, NoGaps, at, naturalOf}
 use Rattle.placing.specs.Settling.{placingOf}

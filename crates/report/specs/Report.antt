@@ -5,8 +5,8 @@ use Prim.Native.Nat.{ℕ, zero, suc, _+_, _*_}
 use lib.IntN.{ℤ}
 use lib.ListN.{length, take, drop, getD}
 use Rattle.text.specs.Text.{bytes}
+use Rattle.statements.specs.Grid.{gridOf}
 use Rattle.sheet.specs.Sheet.{Outcome, refused, accepted, sheet}
-use Rattle.sheet.specs.Grid.{gridOf}
 use Rattle.theory.specs.Search.{Found, placed, none, gaveUp}
 use Rattle.search.specs.Rule.{searchOf}
 use Rattle.placing.specs.Placing.{at, naturalOf}

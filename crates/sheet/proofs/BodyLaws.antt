@@ -1,5 +1,5 @@
--- Laws of the bodies: a line by itself, a line of an event's body, the reading of all bodies, and their cuts. Assumes nothing.
-use mathlib.Core.Path.{_≡_, refl, sym, _∙_}
+-- Laws of the bodies: a line by itself, a line of an event's body, and the reading of all bodies. Assumes nothing.
+use mathlib.Core.Path.{_≡_, sym, _∙_}
 use mathlib.Core.Bool.{Bool, true, false, cond}
 use mathlib.Core.List.{List, [], _∷_, _++_}
 use Prim.Native.Nat.{ℕ, suc, _+_, _-_, _≤_, _<_}
@@ -16,37 +16,29 @@ use Rattle.text.specs.Names.{isName}
 use Rattle.text.specs.Steps.{PartEnd}
 use Rattle.text.proofs.PartLaws.{part-length, split-some, drop-take}
 use Rattle.text.proofs.TextLaws.{and-false}
-use Rattle.words.specs.Words.{joined, areWords, union}
-use Rattle.grid.proofs.CellLaws.{putBoth-length}
-use Rattle.relation.specs.Composition.{converse}
-use Rattle.sheet.specs.Sheet.{Statement, refused, accepted, lf, fields, otherIn, isStatement, find, statementFault, statementIn, owners, next, lineFault, ended, bodies}
-use Rattle.sheet.specs.Grid.{cutBy, cutAll}
+use Rattle.words.specs.Words.{Word, joined, areWords, union}
+use Rattle.statements.specs.Statements.{Statement}
+use Rattle.sheet.specs.Sheet.{refused, accepted, lf, fields, otherIn, isStatement, find, statementFault, statementIn, owners, next, lineFault, ended, bodies}
 use Rattle.sheet.specs.Steps.{partsFrom, StatementIs, StatementRead}
 use Rattle.sheet.proofs.LineLaws.{line-is, line-there, line-ends, or-refused}
 
-abbrev pub st : ℕ → ℕ → ℕ → Statement
-st i u j = record { one = i; set = u; two = j }
-
-pub statement-same : {i u u′ j j′ : ℕ} → u ≡ u′ → j ≡ j′ → st i u j ≡ st i u′ j′
-statement-same p q = cc
-
 -- ---- a line by itself
 
-pub statement-fields : (l : List ℕ) → eqb (length (fields l)) 2 ≡ false → isStatement l ≡ false
+pub statement-fields : (known : List Word) (l : List ℕ) → eqb (length (fields l)) 2 ≡ false → isStatement known l ≡ false
 unfolding isStatement
-statement-fields l e = rw e
+statement-fields known l e = rw e
 
-module _ (l : List ℕ) (k : ℕ) (h : k < length l) (e : fields l ≡ take k l ∷ drop (k + 1) l ∷ []) where
-  pub statement-words : areWords (joined (take k l)) ≡ false → isStatement l ≡ false
+module _ (known : List Word) (l : List ℕ) (k : ℕ) (h : k < length l) (e : fields l ≡ take k l ∷ drop (k + 1) l ∷ []) where
+  pub statement-words : areWords known (joined (take k l)) ≡ false → isStatement known l ≡ false
   unfolding isStatement
   statement-words w = rw (e, w)
 
-  pub statement-name : areWords (joined (take k l)) ≡ true → isName (drop (k + 1) l) ≡ false → isStatement l ≡ false
+  pub statement-name : areWords known (joined (take k l)) ≡ true → isName (drop (k + 1) l) ≡ false → isStatement known l ≡ false
   unfolding isStatement
   statement-name w n = rw (e, w, n)
 
-  pub statement-is : (u : ℕ) → areWords (joined (take k l)) ≡ true → union (joined (take k l)) ≡ u → isName (drop (k + 1) l) ≡ true
-      → StatementIs l k u
+  pub statement-is : (u : ℕ) → areWords known (joined (take k l)) ≡ true → union known (joined (take k l)) ≡ u → isName (drop (k + 1) l) ≡ true
+      → StatementIs known l k u
   unfolding isStatement
   statement-is u w q n =
       record {
@@ -58,25 +50,25 @@ module _ (l : List ℕ) (k : ℕ) (h : k < length l) (e : fields l ≡ take k l 
 
 -- ---- the line that begins at a, in the body of event i
 
-module _ (ns : List (List ℕ)) (i : ℕ) (l : List ℕ) where
-  fault-9 : isStatement l ≡ false → statementFault ns i l ≡ 9
+module _ (known : List Word) (ns : List (List ℕ)) (i : ℕ) (l : List ℕ) where
+  fault-9 : isStatement known l ≡ false → statementFault known ns i l ≡ 9
   fault-9 b = rw b
 
-  module _ (b : isStatement l ≡ true) (j : ℕ) (q : j ≡ find ns (otherIn l)) where
-    fault-11 : length ns ≤ j → statementFault ns i l ≡ 11
+  module _ (b : isStatement known l ≡ true) (j : ℕ) (q : j ≡ find ns (otherIn l)) where
+    fault-11 : length ns ≤ j → statementFault known ns i l ≡ 11
     fault-11 h = rw (b, le-ltb (find ns (otherIn l)) (length ns) (omega arith))
 
-    fault-12 : j < length ns → j ≡ i → statementFault ns i l ≡ 12
+    fault-12 : j < length ns → j ≡ i → statementFault known ns i l ≡ 12
     fault-12 h g = rw (b, lt-ltb (find ns (otherIn l)) (length ns) (omega arith), eq-eqb (find ns (otherIn l)) i (omega arith))
 
-    fault-none : j < length ns → (j ≡ i → ⊥) → statementFault ns i l ≡ 0
+    fault-none : j < length ns → (j ≡ i → ⊥) → statementFault known ns i l ≡ 0
     fault-none h g = rw (b, lt-ltb (find ns (otherIn l)) (length ns) (omega arith), ne-eqb (find ns (otherIn l)) i (λ y. g (q ∙ y)))
 
-module _ (ns : List (List ℕ)) (i : ℕ) (s : List ℕ) (a e : ℕ) (p : PartEnd lf s a e) (h : e < length s) where
-  pub read-9 : isStatement (take (e - a) (drop a s)) ≡ false → lineFault (statementFault ns i) (partsFrom s a) ≡ 9
-  read-9 b = line-there s a e p (statementFault ns i) h ∙ fault-9 ns i (take (e - a) (drop a s)) b
+module _ (known : List Word) (ns : List (List ℕ)) (i : ℕ) (s : List ℕ) (a e : ℕ) (p : PartEnd lf s a e) (h : e < length s) where
+  pub read-9 : isStatement known (take (e - a) (drop a s)) ≡ false → lineFault (statementFault known ns i) (partsFrom s a) ≡ 9
+  read-9 b = line-there s a e p (statementFault known ns i) h ∙ fault-9 known ns i (take (e - a) (drop a s)) b
 
-  module _ (k u : ℕ) (w : StatementIs (take (e - a) (drop a s)) k u) where
+  module _ (k u : ℕ) (w : StatementIs known (take (e - a) (drop a s)) k u) where
     pub other-fits : a + k + 1 ≤ e
     other-fits = omega (arith, part-length lf s a e p, w .inside, p .low)
 
@@ -88,16 +80,16 @@ module _ (ns : List (List ℕ)) (i : ℕ) (s : List ℕ) (a e : ℕ) (p : PartEn
         sym (w .other ∙ drop-take (k + 1) (e - a) (drop a s) ∙ rw (q, r, drop-drop))
 
     module _ (j : ℕ) (q : j ≡ find ns (otherIn (take (e - a) (drop a s)))) where
-      pub read-11 : length ns ≤ j → lineFault (statementFault ns i) (partsFrom s a) ≡ 11
-      read-11 g = line-there s a e p (statementFault ns i) h ∙ fault-11 ns i (take (e - a) (drop a s)) (w .form) j q g
+      pub read-11 : length ns ≤ j → lineFault (statementFault known ns i) (partsFrom s a) ≡ 11
+      read-11 g = line-there s a e p (statementFault known ns i) h ∙ fault-11 known ns i (take (e - a) (drop a s)) (w .form) j q g
 
-      pub read-12 : j < length ns → j ≡ i → lineFault (statementFault ns i) (partsFrom s a) ≡ 12
-      read-12 g d = line-there s a e p (statementFault ns i) h ∙ fault-12 ns i (take (e - a) (drop a s)) (w .form) j q g d
+      pub read-12 : j < length ns → j ≡ i → lineFault (statementFault known ns i) (partsFrom s a) ≡ 12
+      read-12 g d = line-there s a e p (statementFault known ns i) h ∙ fault-12 known ns i (take (e - a) (drop a s)) (w .form) j q g d
 
-      pub read-says : j < length ns → (j ≡ i → ⊥) → StatementRead ns i s a u j (e + 1)
+      pub read-says : j < length ns → (j ≡ i → ⊥) → StatementRead known ns i s a u j (e + 1)
       read-says g d =
           record {
-            sound = line-there s a e p (statementFault ns i) h ∙ fault-none ns i (take (e - a) (drop a s)) (w .form) j q g d;
+            sound = line-there s a e p (statementFault known ns i) h ∙ fault-none known ns i (take (e - a) (drop a s)) (w .form) j q g d;
             ends = line-ends s a e p h;
             set = rw (line-is s a e p) (w .set);
             other = rw (line-is s a e p) (sym q);
@@ -106,19 +98,19 @@ module _ (ns : List (List ℕ)) (i : ℕ) (s : List ℕ) (a e : ℕ) (p : PartEn
 
 -- ---- the bodies, one line of event i on
 
-module _ (ns : List (List ℕ)) (cs : List ℕ) (i : ℕ) (os : List ℕ) (sts : List Statement) (ps : List (List ℕ)) (line : ℕ) where
-  pub bodies-stop : (r : Refusal) → lineFault (statementFault ns i) ps ≡ numberOf r → bodies ns cs (i ∷ os) sts ps line ≡ refused (numberOf r) line
+module _ (known : List Word) (ns : List (List ℕ)) (cs : List ℕ) (i : ℕ) (os : List ℕ) (sts : List Statement) (ps : List (List ℕ)) (line : ℕ) where
+  pub bodies-stop : (r : Refusal) → lineFault (statementFault known ns i) ps ≡ numberOf r → bodies known ns cs (i ∷ os) sts ps line ≡ refused (numberOf r) line
   unfolding bodies
-  bodies-stop r e = or-refused (lineFault (statementFault ns i) ps) r line _ e
+  bodies-stop r e = or-refused (lineFault (statementFault known ns i) ps) r line _ e
 
-  pub bodies-read : lineFault (statementFault ns i) ps ≡ 0
-      → bodies ns cs (i ∷ os) sts ps line ≡ bodies ns cs os (sts ++ statementIn ns i (next ps) ∷ []) (drop 1 ps) (suc line)
+  pub bodies-read : lineFault (statementFault known ns i) ps ≡ 0
+      → bodies known ns cs (i ∷ os) sts ps line ≡ bodies known ns cs os (sts ++ statementIn known ns i (next ps) ∷ []) (drop 1 ps) (suc line)
   unfolding bodies
   bodies-read e = rw e
 
-pub bodies-cong : (ns : List (List ℕ)) (cs : List ℕ) {os os′ : List ℕ} {sts sts′ : List Statement} {ps ps′ : List (List ℕ)} {line line′ : ℕ}
-    → os ≡ os′ → sts ≡ sts′ → ps ≡ ps′ → line ≡ line′ → bodies ns cs os sts ps line ≡ bodies ns cs os′ sts′ ps′ line′
-bodies-cong ns cs p q r t = cc
+pub bodies-cong : (known : List Word) (ns : List (List ℕ)) (cs : List ℕ) {os os′ : List ℕ} {sts sts′ : List Statement} {ps ps′ : List (List ℕ)} {line line′ : ℕ}
+    → os ≡ os′ → sts ≡ sts′ → ps ≡ ps′ → line ≡ line′ → bodies known ns cs os sts ps line ≡ bodies known ns cs os′ sts′ ps′ line′
+bodies-cong known ns cs p q r t = cc
 
 pub owners-next : (i : ℕ) (cs : List ℕ) → i < length cs → owners i (drop i cs) ≡ replicate (getD cs i 0) i ++ owners (i + 1) (drop (i + 1) cs)
 unfolding owners
@@ -139,27 +131,11 @@ ended-at s a h = rw drop-of-length-le
 not-ended-at : (s : List ℕ) (a : ℕ) → a < length s → ended (partsFrom s a) ≡ false
 not-ended-at s a h = rw (drop-cons s a 0) (some-not-ended (getD s a 0) (drop (suc a) s))
 
-module _ (ns : List (List ℕ)) (cs : List ℕ) (i : ℕ) (sts : List Statement) (s : List ℕ) (a line : ℕ) (e : length cs ≤ i) where
-  pub bodies-done : length s ≤ a → bodies ns cs (owners i (drop i cs)) sts (partsFrom s a) line ≡ accepted ns cs sts
+module _ (known : List Word) (ns : List (List ℕ)) (cs : List ℕ) (i : ℕ) (sts : List Statement) (s : List ℕ) (a line : ℕ) (e : length cs ≤ i) where
+  pub bodies-done : length s ≤ a → bodies known ns cs (owners i (drop i cs)) sts (partsFrom s a) line ≡ accepted ns cs sts
   unfolding bodies owners
   bodies-done h = rw (drop-of-length-le cs e, ended-at s a h)
 
-  pub bodies-over : a < length s → bodies ns cs (owners i (drop i cs)) sts (partsFrom s a) line ≡ refused 9 line
+  pub bodies-over : a < length s → bodies known ns cs (owners i (drop i cs)) sts (partsFrom s a) line ≡ refused 9 line
   unfolding bodies owners
   bodies-over h = rw (drop-of-length-le cs e, not-ended-at s a h)
-
--- ---- cuts
-
-pub cut-length : (n : ℕ) (g : List ℕ) (t : Statement) → length (cutBy n g t) ≡ length g
-unfolding cutBy
-cut-length n g t = putBoth-length converse n g (t .one) (t .two) _
-
-pub cut-more : (n : ℕ) (g : List ℕ) (new : List Statement) (t : Statement) → cutAll n g (new ++ t ∷ []) ≡ cutBy n (cutAll n g new) t
-unfolding cutAll
-cut-more n g [] t = refl
-cut-more n g (x ∷ new) t = cut-more n (cutBy n g x) new t
-
-pub cut-append : (n : ℕ) (g : List ℕ) (xs ys : List Statement) → cutAll n (cutAll n g xs) ys ≡ cutAll n g (xs ++ ys)
-unfolding cutAll
-cut-append n g [] ys = refl
-cut-append n g (x ∷ xs) ys = cut-append n (cutBy n g x) xs ys

@@ -16,6 +16,7 @@ use Rattle.text.specs.Text.{isNumber, value}
 use Rattle.text.specs.Names.{isName, sameName}
 use Rattle.text.specs.Steps.{PartEnd}
 use Rattle.text.proofs.PartLaws.{part-length}
+use Rattle.words.specs.Words.{Word}
 use Rattle.sheet.specs.Sheet.{refused, mostEvents, mostStatements, lf, fields, nameIn, countIn, isEntry, find, listed, entryFault, owners, next, lineFault, bodies, contents}
 use Rattle.sheet.specs.Steps.{partsFrom, Begins, EntryIs, EntryRead, nameAt, namesAt, Within, Keeps, Starts, TableOf}
 use Rattle.sheet.specs.declared.Table.{Table}
@@ -94,24 +95,24 @@ module _ (ns : List (List ℕ)) (s : List ℕ) (a e : ℕ) (p : PartEnd lf s a e
 
 -- ---- the contents, one line of k on
 
-module _ (k m : ℕ) (q : k ≡ suc m) (ns : List (List ℕ)) (cs : List ℕ) (ps : List (List ℕ)) (line : ℕ) where
-  pub contents-stop : (r : Refusal) → lineFault (entryFault ns) ps ≡ numberOf r → contents k ns cs ps line ≡ refused (numberOf r) line
+module _ (known : List Word) (k m : ℕ) (q : k ≡ suc m) (ns : List (List ℕ)) (cs : List ℕ) (ps : List (List ℕ)) (line : ℕ) where
+  pub contents-stop : (r : Refusal) → lineFault (entryFault ns) ps ≡ numberOf r → contents known k ns cs ps line ≡ refused (numberOf r) line
   unfolding contents
   contents-stop r e = rw q (or-refused (lineFault (entryFault ns) ps) r line _ e)
 
   pub contents-read : lineFault (entryFault ns) ps ≡ 0
-      → contents k ns cs ps line ≡ contents m (ns ++ nameIn (next ps) ∷ []) (cs ++ countIn (next ps) ∷ []) (drop 1 ps) (suc line)
+      → contents known k ns cs ps line ≡ contents known m (ns ++ nameIn (next ps) ∷ []) (cs ++ countIn (next ps) ∷ []) (drop 1 ps) (suc line)
   unfolding contents
   contents-read e = rw (q, e)
 
-pub contents-done : (k : ℕ) → k ≡ 0 → (ns : List (List ℕ)) (cs : List ℕ) (ps : List (List ℕ)) (line : ℕ)
-    → contents k ns cs ps line ≡ bodies ns cs (owners 0 cs) [] ps line
+pub contents-done : (known : List Word) (k : ℕ) → k ≡ 0 → (ns : List (List ℕ)) (cs : List ℕ) (ps : List (List ℕ)) (line : ℕ)
+    → contents known k ns cs ps line ≡ bodies known ns cs (owners 0 cs) [] ps line
 unfolding contents
-contents-done k q ns cs ps line = rw q
+contents-done known k q ns cs ps line = rw q
 
-pub contents-cong : (m : ℕ) {ns ns′ : List (List ℕ)} {cs cs′ : List ℕ} {ps ps′ : List (List ℕ)} {line line′ : ℕ}
-    → ns ≡ ns′ → cs ≡ cs′ → ps ≡ ps′ → line ≡ line′ → contents m ns cs ps line ≡ contents m ns′ cs′ ps′ line′
-contents-cong m p q r t = cc
+pub contents-cong : (known : List Word) (m : ℕ) {ns ns′ : List (List ℕ)} {cs cs′ : List ℕ} {ps ps′ : List (List ℕ)} {line line′ : ℕ}
+    → ns ≡ ns′ → cs ≡ cs′ → ps ≡ ps′ → line ≡ line′ → contents known m ns cs ps line ≡ contents known m ns′ cs′ ps′ line′
+contents-cong known m p q r t = cc
 
 -- ---- the names that a table keeps
 

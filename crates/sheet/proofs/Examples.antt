@@ -6,8 +6,9 @@ use Prim.Native.String.{String}
 use Rattle.text.specs.Text.{bytes, isNumber}
 use Rattle.text.specs.Names.{isName, sameName}
 use Rattle.words.specs.Words.{words, meaning}
-use Rattle.sheet.specs.Sheet.{Statement, Outcome, refused, accepted, isEntry, isStatement, owners, bodies, contents, sheet}
-use Rattle.sheet.proofs.BodyLaws.{st}
+use Rattle.statements.specs.Statements.{Statement}
+use Rattle.statements.proofs.StatementLaws.{st}
+use Rattle.sheet.specs.Sheet.{Outcome, refused, accepted, isEntry, isStatement, owners, bodies, contents, sheet}
 
 record Worked : Type 0 where
   text : String

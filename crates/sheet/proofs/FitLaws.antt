@@ -8,20 +8,10 @@ use lib.Dec.{eqb, ltb}
 use lib.ListN.{length, drop, replicate, length-append}
 use borrow.Author.Tests.{eqb-true, eqb-false, ltb-true, ltb-false}
 use Rattle.text.specs.Text.{isNumber, value}
-use Rattle.sheet.specs.Sheet.{Statement, Outcome, refused, accepted, mostBytes, mostEvents, parts, firstFault, nameIn, countIn, find, listed, entryFault, otherIn, isStatement, statementFault, statementIn, owners, next, lineFault, orRefused, ended, bodies, contents, first, sheet}
-
-pub record Fits (n : ℕ) (t : Statement) : Type 0 where
-  pub one-in : t .one < n
-  pub two-in : t .two < n
-  pub apart : t .one ≡ t .two → ⊥
-
-abbrev pub AllFit : ℕ → List Statement → Type 0
-AllFit n [] = Unit
-AllFit n (t ∷ ts) = Fits n t × AllFit n ts
-
-fit-append : (n : ℕ) (ts us : List Statement) → AllFit n ts → AllFit n us → AllFit n (ts ++ us)
-fit-append n [] us p q = q
-fit-append n (t ∷ ts) us p q = (p .0, fit-append n ts us (p .1) q)
+use Rattle.words.specs.Words.{Word, words}
+use Rattle.statements.specs.Statements.{Statement, Fits, AllFit}
+use Rattle.statements.proofs.StatementLaws.{fit-append}
+use Rattle.sheet.specs.Sheet.{Outcome, refused, accepted, mostBytes, mostEvents, parts, firstFault, nameIn, countIn, find, listed, entryFault, otherIn, isStatement, statementFault, statementIn, owners, next, lineFault, orRefused, ended, bodies, contents, first, sheet}
 
 -- ---- the events of the statement lines
 
@@ -59,11 +49,11 @@ went-on fault line rest ns cs sts e = by (eqb fault 0) refl e
     by true q e = (eqb-true fault 0 q, e)
     by false q e = let z : _≡_ {A = ℕ} 0 1 = cc in absurd (omega arith)
 
-statement-fits : (ns : List (List ℕ)) (i : ℕ) (l : List ℕ) → i < length ns → statementFault ns i l ≡ 0 → Fits (length ns) (statementIn ns i l)
-statement-fits ns i l h e = by (isStatement l) (listed ns (otherIn l)) (eqb (find ns (otherIn l)) i) refl refl e
+statement-fits : (known : List Word) (ns : List (List ℕ)) (i : ℕ) (l : List ℕ) → i < length ns → statementFault known ns i l ≡ 0 → Fits (length ns) (statementIn known ns i l)
+statement-fits known ns i l h e = by (isStatement known l) (listed ns (otherIn l)) (eqb (find ns (otherIn l)) i) refl refl e
   where
     by : (t u v : Bool) → listed ns (otherIn l) ≡ u → eqb (find ns (otherIn l)) i ≡ v → _≡_ {A = ℕ} (cond (not t) 9 (cond (not u) 11 (cond v 12 0))) 0
-        → Fits (length ns) (statementIn ns i l)
+        → Fits (length ns) (statementIn known ns i l)
     by false u v p q e = absurd (omega arith)
     by true false v p q e = absurd (omega arith)
     by true true true p q e = absurd (omega arith)
@@ -74,18 +64,18 @@ statement-fits ns i l h e = by (isStatement l) (listed ns (otherIn l)) (eqb (fin
 
 -- an accepted sheet has no fault on its first line, and its contents are accepted
 pub sheet-opened : (s : List ℕ) (ns : List (List ℕ)) (cs : List ℕ) (sts : List Statement) → sheet s ≡ accepted ns cs sts
-    → (lineFault firstFault (parts s) ≡ 0) × (contents (value (next (parts s))) [] [] (drop 1 (parts s)) 2 ≡ accepted ns cs sts)
+    → (lineFault firstFault (parts s) ≡ 0) × (contents words (value (next (parts s))) [] [] (drop 1 (parts s)) 2 ≡ accepted ns cs sts)
 unfolding sheet
 sheet-opened s ns cs sts e = by (ltb mostBytes (length s)) e
   where
-    by : (t : Bool) → cond t (refused 8 0) (first (parts s)) ≡ accepted ns cs sts
-        → (lineFault firstFault (parts s) ≡ 0) × (contents (value (next (parts s))) [] [] (drop 1 (parts s)) 2 ≡ accepted ns cs sts)
+    by : (t : Bool) → cond t (refused 8 0) (first words (parts s)) ≡ accepted ns cs sts
+        → (lineFault firstFault (parts s) ≡ 0) × (contents words (value (next (parts s))) [] [] (drop 1 (parts s)) 2 ≡ accepted ns cs sts)
     by true e = let z : _≡_ {A = ℕ} 0 1 = cc in absurd (omega arith)
-    by false e = went-on (lineFault firstFault (parts s)) 1 (contents (value (next (parts s))) [] [] (drop 1 (parts s)) 2) ns cs sts e
+    by false e = went-on (lineFault firstFault (parts s)) 1 (contents words (value (next (parts s))) [] [] (drop 1 (parts s)) 2) ns cs sts e
 
-module _ (ns′ : List (List ℕ)) (cs′ : List ℕ) (sts′ : List Statement) where
+module _ (known : List Word) (ns′ : List (List ℕ)) (cs′ : List ℕ) (sts′ : List Statement) where
   pub bodies-fit : (ns : List (List ℕ)) (cs os : List ℕ) (sts : List Statement) (ps : List (List ℕ)) (line : ℕ)
-      → AllBelow (length ns) os → AllFit (length ns) sts → bodies ns cs os sts ps line ≡ accepted ns′ cs′ sts′
+      → AllBelow (length ns) os → AllFit (length ns) sts → bodies known ns cs os sts ps line ≡ accepted ns′ cs′ sts′
       → (ns ≡ ns′) × AllFit (length ns) sts′
   unfolding bodies
   bodies-fit ns cs [] sts ps line b f e = by (ended ps) e
@@ -94,14 +84,14 @@ module _ (ns′ : List (List ℕ)) (cs′ : List ℕ) (sts′ : List Statement) 
       by true e = let q : sts ≡ sts′ = cc in ((cc), subst (AllFit (length ns)) q f)
       by false e = let z : _≡_ {A = ℕ} 0 1 = cc in absurd (omega arith)
   bodies-fit ns cs (i ∷ os) sts ps line b f e =
-      let w = went-on (lineFault (statementFault ns i) ps) line (bodies ns cs os (sts ++ statementIn ns i (next ps) ∷ []) (drop 1 ps) (suc line)) ns′ cs′ sts′ e in
-      bodies-fit ns cs os (sts ++ statementIn ns i (next ps) ∷ []) (drop 1 ps) (suc line) (b .1)
-      (fit-append (length ns) sts (statementIn ns i (next ps) ∷ []) f
-      (statement-fits ns i (next ps) (b .0) (no-fault (statementFault ns i) ps (w .0)), tt))
+      let w = went-on (lineFault (statementFault known ns i) ps) line (bodies known ns cs os (sts ++ statementIn known ns i (next ps) ∷ []) (drop 1 ps) (suc line)) ns′ cs′ sts′ e in
+      bodies-fit ns cs os (sts ++ statementIn known ns i (next ps) ∷ []) (drop 1 ps) (suc line) (b .1)
+      (fit-append (length ns) sts (statementIn known ns i (next ps) ∷ []) f
+      (statement-fits known ns i (next ps) (b .0) (no-fault (statementFault known ns i) ps (w .0)), tt))
       (w .1)
 
   contents-fit : (k : ℕ) (ns : List (List ℕ)) (cs : List ℕ) (ps : List (List ℕ)) (line : ℕ) → length cs ≡ length ns
-      → contents k ns cs ps line ≡ accepted ns′ cs′ sts′ → (length ns′ ≡ length ns + k) × AllFit (length ns′) sts′
+      → contents known k ns cs ps line ≡ accepted ns′ cs′ sts′ → (length ns′ ≡ length ns + k) × AllFit (length ns′) sts′
   unfolding contents
   contents-fit zero ns cs ps line q e =
       let w = bodies-fit ns cs (owners 0 cs) [] ps line (owners-below (length ns) 0 cs (omega arith)) tt e in
@@ -111,15 +101,16 @@ module _ (ns′ : List (List ℕ)) (cs′ : List ℕ) (sts′ : List Statement) 
       let cs₁ = cs ++ countIn (next ps) ∷ [] in
       let nl = length-append ns (nameIn (next ps) ∷ []) in
       let cl = length-append cs (countIn (next ps) ∷ []) in
-      let w = went-on (lineFault (entryFault ns) ps) line (contents k ns₁ cs₁ (drop 1 ps) (suc line)) ns′ cs′ sts′ e in
+      let w = went-on (lineFault (entryFault ns) ps) line (contents known k ns₁ cs₁ (drop 1 ps) (suc line)) ns′ cs′ sts′ e in
       let r = contents-fit k ns₁ cs₁ (drop 1 ps) (suc line) (omega arith) (w .1) in
       (omega (arith, r .0), r .1)
 
+module _ (ns′ : List (List ℕ)) (cs′ : List ℕ) (sts′ : List Statement) where
   pub sheet-fits : (s : List ℕ) → sheet s ≡ accepted ns′ cs′ sts′ → (length ns′ ≤ mostEvents) × AllFit (length ns′) sts′
   sheet-fits s e =
       let ps = parts s in
       let w = sheet-opened s ns′ cs′ sts′ e in
-      let r = contents-fit (value (next ps)) [] [] (drop 1 ps) 2 refl (w .1) in
+      let r = contents-fit words ns′ cs′ sts′ (value (next ps)) [] [] (drop 1 ps) 2 refl (w .1) in
       (omega (arith, r .0, few (next ps) (no-fault firstFault ps (w .0))), r .1)
     where
       few : (l : List ℕ) → firstFault l ≡ 0 → value l ≤ mostEvents
@@ -131,6 +122,6 @@ module _ (ns′ : List (List ℕ)) (cs′ : List ℕ) (sts′ : List Statement) 
           go true false p e = ltb-false mostEvents (value l) p
 
 -- of the bodies alone, as the reader reads them
-pub bodies-fits : (ns : List (List ℕ)) (cs : List ℕ) (ps : List (List ℕ)) (line : ℕ) (sts : List Statement) → length cs ≤ length ns
-    → bodies ns cs (owners 0 cs) [] ps line ≡ accepted ns cs sts → AllFit (length ns) sts
-bodies-fits ns cs ps line sts h e = bodies-fit ns cs sts ns cs (owners 0 cs) [] ps line (owners-below (length ns) 0 cs (omega arith)) tt e .1
+pub bodies-fits : (known : List Word) (ns : List (List ℕ)) (cs : List ℕ) (ps : List (List ℕ)) (line : ℕ) (sts : List Statement) → length cs ≤ length ns
+    → bodies known ns cs (owners 0 cs) [] ps line ≡ accepted ns cs sts → AllFit (length ns) sts
+bodies-fits known ns cs ps line sts h e = bodies-fit known ns cs sts ns cs (owners 0 cs) [] ps line (owners-below (length ns) 0 cs (omega arith)) tt e .1

@@ -3,8 +3,6 @@ pub mod ContentsLaws
 pub mod BodyLaws
 pub mod FitLaws
 pub mod RefusedLaws
-pub mod GridLaws
-pub mod MeantLaws
 pub mod SheetLaws
 pub mod NameLaws
 pub mod SheetRight

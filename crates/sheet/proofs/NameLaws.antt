@@ -14,7 +14,9 @@ use Rattle.text.specs.Names.{longestName, isName}
 use Rattle.text.specs.Steps.{PartEnd}
 use Rattle.text.proofs.PartLaws.{until, part-end, part-length}
 use Rattle.text.proofs.TextLaws.{both, name-length}
-use Rattle.sheet.specs.Sheet.{Statement, accepted, mostStatements, lf, space, parts, fields, field, firstFault, nameIn, countIn, isEntry, listed, entryFault, owners, next, lineFault, contents, sheet}
+use Rattle.words.specs.Words.{Word, words}
+use Rattle.statements.specs.Statements.{Statement}
+use Rattle.sheet.specs.Sheet.{accepted, mostStatements, lf, space, parts, fields, field, firstFault, nameIn, countIn, isEntry, listed, entryFault, owners, next, lineFault, contents, sheet}
 use Rattle.sheet.specs.Answers.{nameStart}
 use Rattle.sheet.specs.Steps.{partsFrom, Ends, Begins, Short}
 use Rattle.sheet.proofs.LineLaws.{line-is, line-missing, line-ends, begins-first, begins-next}
@@ -79,22 +81,22 @@ module _ (s : List ℕ) where
   module _ (ns′ : List (List ℕ)) (cs′ : List ℕ) (sts′ : List Statement) (P : ℕ → List ℕ → Type 0)
       (brings : (ns : List (List ℕ)) (a : ℕ) → Begins s (length ns + 1) a → lineFault (entryFault ns) (partsFrom s a) ≡ 0
       → P (length ns) (nameIn (next (partsFrom s a)))) where
-    contents-each : (k : ℕ) (ns : List (List ℕ)) (cs : List ℕ) (a line : ℕ) → length cs ≡ length ns → Begins s (length ns + 1) a → Each P ns
-        → contents k ns cs (partsFrom s a) line ≡ accepted ns′ cs′ sts′ → Each P ns′
+    contents-each : (known : List Word) (k : ℕ) (ns : List (List ℕ)) (cs : List ℕ) (a line : ℕ) → length cs ≡ length ns → Begins s (length ns + 1) a → Each P ns
+        → contents known k ns cs (partsFrom s a) line ≡ accepted ns′ cs′ sts′ → Each P ns′
     unfolding contents
-    contents-each zero ns cs a line q b w e =
-        subst (Each P) (bodies-fit ns′ cs′ sts′ ns cs (owners 0 cs) [] (partsFrom s a) line (owners-below (length ns) 0 cs (omega arith)) tt e .0) w
-    contents-each (suc k) ns cs a line q b w e =
+    contents-each known zero ns cs a line q b w e =
+        subst (Each P) (bodies-fit known ns′ cs′ sts′ ns cs (owners 0 cs) [] (partsFrom s a) line (owners-below (length ns) 0 cs (omega arith)) tt e .0) w
+    contents-each known (suc k) ns cs a line q b w e =
         let ps = partsFrom s a in
         let m = nameIn (next ps) in
         let ns₁ = ns ++ m ∷ [] in
         let cs₁ = cs ++ countIn (next ps) ∷ [] in
         let nl = length-append ns (m ∷ []) in
         let cl = length-append cs (countIn (next ps) ∷ []) in
-        let g = went-on (lineFault (entryFault ns) ps) line (contents k ns₁ cs₁ (drop 1 ps) (suc line)) ns′ cs′ sts′ e in
+        let g = went-on (lineFault (entryFault ns) ps) line (contents known k ns₁ cs₁ (drop 1 ps) (suc line)) ns′ cs′ sts′ e in
         let n = line-next (entryFault ns) a (b .inside) (g .0) in
         let more : length ns + 1 + 1 ≡ length ns₁ + 1 = omega arith in
-        contents-each k ns₁ cs₁ (end a + 1) (suc line) (omega arith)
+        contents-each known k ns₁ cs₁ (end a + 1) (suc line) (omega arith)
         (subst (λ (j : ℕ). Begins s j (end a + 1)) more (begins-next s (length ns + 1) a (end a + 1) b n))
         (each-more P ns m w (brings ns a b (g .0)))
         (rw (n .rest) at (g .1))
@@ -104,7 +106,7 @@ module _ (s : List ℕ) where
         let ps = parts s in
         let g = sheet-opened s ns′ cs′ sts′ e in
         let n = line-next firstFault 0 (omega arith) (g .0) in
-        contents-each (value (next ps)) [] [] (end 0 + 1) 2 refl (begins-next s 0 0 (end 0 + 1) (begins-first s) n) (λ i h. absurd (omega arith))
+        contents-each words (value (next ps)) [] [] (end 0 + 1) 2 refl (begins-next s 0 0 (end 0 + 1) (begins-first s) n) (λ i h. absurd (omega arith))
         (rw (n .rest) at (g .1))
 
   -- ---- where a name's part is said to start, the name stands

@@ -9,7 +9,9 @@ use lib.ListN.{length, drop, length-drop}
 use borrow.Author.Tests.{eqb-true, ltb-false}
 use Rattle.text.specs.Text.{isNumber, value}
 use Rattle.text.proofs.PartLaws.{split-few}
-use Rattle.sheet.specs.Sheet.{Statement, Outcome, refused, accepted, mostBytes, mostEvents, lf, parts, firstFault, nameIn, countIn, find, isEntry, listed, entryFault, otherIn, isStatement, statementFault, statementIn, owners, next, lineFault, orRefused, ended, bodies, contents, first, sheet}
+use Rattle.statements.specs.Statements.{Statement}
+use Rattle.words.specs.Words.{Word, words}
+use Rattle.sheet.specs.Sheet.{Outcome, refused, accepted, mostBytes, mostEvents, lf, parts, firstFault, nameIn, countIn, find, isEntry, listed, entryFault, otherIn, isStatement, statementFault, statementIn, owners, next, lineFault, orRefused, ended, bodies, contents, first, sheet}
 
 -- ---- the numbers of the faults
 
@@ -31,9 +33,9 @@ first-few l = cond-few (not (isNumber l)) 9 _ (omega arith) (cond-few (ltb mostE
 entry-few : (ns : List (List ℕ)) (l : List ℕ) → entryFault ns l ≤ highest
 entry-few ns l = cond-few (not (isEntry l)) 9 _ (omega arith) (cond-few (listed ns (nameIn l)) 10 0 (omega arith) (omega arith))
 
-statement-few : (ns : List (List ℕ)) (i : ℕ) (l : List ℕ) → statementFault ns i l ≤ highest
-statement-few ns i l =
-    cond-few (not (isStatement l)) 9 _ (omega arith)
+statement-few : (known : List Word) (ns : List (List ℕ)) (i : ℕ) (l : List ℕ) → statementFault known ns i l ≤ highest
+statement-few known ns i l =
+    cond-few (not (isStatement known l)) 9 _ (omega arith)
     (cond-few (not (listed ns (otherIn l))) 11 _ (omega arith) (cond-few (eqb (find ns (otherIn l)) i) 12 0 (omega arith) (omega arith)))
 
 -- a line without a fault is not the last part
@@ -57,29 +59,29 @@ module _ (number at : ℕ) where
       by true q e = go (eqb-true fault 0 q) e
       by false q e = let p : fault ≡ number = cc in let q : line ≡ at = cc in (omega arith, omega arith)
 
-  bodies-few : (ns : List (List ℕ)) (cs os : List ℕ) (sts : List Statement) (ps : List (List ℕ)) (line most : ℕ) → line + length ps ≤ most
-      → bodies ns cs os sts ps line ≡ refused number at → Few most
+  bodies-few : (known : List Word) (ns : List (List ℕ)) (cs os : List ℕ) (sts : List Statement) (ps : List (List ℕ)) (line most : ℕ) → line + length ps ≤ most
+      → bodies known ns cs os sts ps line ≡ refused number at → Few most
   unfolding bodies
-  bodies-few ns cs [] sts ps line most h e = by (ended ps) e
+  bodies-few known ns cs [] sts ps line most h e = by (ended ps) e
     where
       by : (t : Bool) → cond t (accepted ns cs sts) (refused 9 line) ≡ refused number at → Few most
       by true e = let z : _≡_ {A = ℕ} 0 1 = cc in absurd (omega arith)
       by false e = let p : 9 ≡ number = cc in let q : line ≡ at = cc in (omega arith, omega arith)
-  bodies-few ns cs (i ∷ os) sts ps line most h e =
-      refused-few (lineFault (statementFault ns i) ps) line most _ (line-few (statementFault ns i) (statement-few ns i) ps) (omega arith)
+  bodies-few known ns cs (i ∷ os) sts ps line most h e =
+      refused-few (lineFault (statementFault known ns i) ps) line most _ (line-few (statementFault known ns i) (statement-few known ns i) ps) (omega arith)
       (λ z r.
-      bodies-few ns cs os (sts ++ statementIn ns i (next ps) ∷ []) (drop 1 ps) (suc line) most
-      (omega (arith, line-more (statementFault ns i) ps z, length-drop 1 ps)) r)
+      bodies-few known ns cs os (sts ++ statementIn known ns i (next ps) ∷ []) (drop 1 ps) (suc line) most
+      (omega (arith, line-more (statementFault known ns i) ps z, length-drop 1 ps)) r)
       e
 
-  contents-few : (k : ℕ) (ns : List (List ℕ)) (cs : List ℕ) (ps : List (List ℕ)) (line most : ℕ) → line + length ps ≤ most
-      → contents k ns cs ps line ≡ refused number at → Few most
+  contents-few : (known : List Word) (k : ℕ) (ns : List (List ℕ)) (cs : List ℕ) (ps : List (List ℕ)) (line most : ℕ) → line + length ps ≤ most
+      → contents known k ns cs ps line ≡ refused number at → Few most
   unfolding contents
-  contents-few zero ns cs ps line most h e = bodies-few ns cs (owners 0 cs) [] ps line most h e
-  contents-few (suc k) ns cs ps line most h e =
+  contents-few known zero ns cs ps line most h e = bodies-few known ns cs (owners 0 cs) [] ps line most h e
+  contents-few known (suc k) ns cs ps line most h e =
       refused-few (lineFault (entryFault ns) ps) line most _ (line-few (entryFault ns) (entry-few ns) ps) (omega arith)
       (λ z r.
-      contents-few k (ns ++ nameIn (next ps) ∷ []) (cs ++ countIn (next ps) ∷ []) (drop 1 ps) (suc line) most
+      contents-few known k (ns ++ nameIn (next ps) ∷ []) (cs ++ countIn (next ps) ∷ []) (drop 1 ps) (suc line) most
       (omega (arith, line-more (entryFault ns) ps z, length-drop 1 ps)) r)
       e
 
@@ -87,12 +89,12 @@ module _ (number at : ℕ) where
   unfolding sheet
   sheet-few s e = by (ltb mostBytes (length s)) refl e
     where
-      by : (t : Bool) → ltb mostBytes (length s) ≡ t → cond t (refused 8 0) (first (parts s)) ≡ refused number at → Few (mostBytes + 2)
+      by : (t : Bool) → ltb mostBytes (length s) ≡ t → cond t (refused 8 0) (first words (parts s)) ≡ refused number at → Few (mostBytes + 2)
       by true q e = let p : 8 ≡ number = cc in let q : 0 ≡ at = cc in (omega arith, omega arith)
       by false q e =
           let ps = parts s in
           let l : length ps ≤ suc mostBytes = omega (arith, split-few lf s, ltb-false mostBytes (length s) q) in
           refused-few (lineFault firstFault ps) 1 (mostBytes + 2) _ (line-few firstFault first-few ps) (omega arith)
           (λ z r.
-          contents-few (value (next ps)) [] [] (drop 1 ps) 2 (mostBytes + 2) (omega (arith, line-more firstFault ps z, length-drop 1 ps)) r)
+          contents-few words (value (next ps)) [] [] (drop 1 ps) 2 (mostBytes + 2) (omega (arith, line-more firstFault ps z, length-drop 1 ps)) r)
           e

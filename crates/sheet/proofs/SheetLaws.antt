@@ -11,8 +11,10 @@ use Rattle.refusal.specs.Numbers.{numberOf}
 use Rattle.refusal.specs.declared.Refusal.{Refusal}
 use Rattle.text.specs.Text.{isNumber, value}
 use Rattle.text.specs.Steps.{PartEnd}
+use Rattle.words.specs.Words.{Word, words}
+use Rattle.statements.specs.Grid.{startGrid}
+use Rattle.statements.proofs.GridLaws.{grid-front}
 use Rattle.sheet.specs.Sheet.{Outcome, refused, mostBytes, mostEvents, lf, parts, firstFault, next, lineFault, contents, sheet}
-use Rattle.sheet.specs.Grid.{startGrid}
 use Rattle.sheet.specs.Steps.{partsFrom, tableNames, tableCounts, ContentsRead, BodiesSay, SheetRead, SheetSays}
 use Rattle.sheet.specs.declared.Table.{Table}
 use Rattle.sheet.specs.declared.SheetAnswer.{SheetAnswer}
@@ -20,7 +22,6 @@ use Rattle.sheet.specs.declared.SheetAnswer.the-variants.{Events, Refuse
 use Rattle.sheet.proofs.LineLaws.{line-is, line-missing, line-there, line-ends}
 use Rattle.sheet.proofs.ContentsLaws.{names-length}
 use Rattle.sheet.proofs.FitLaws.{bodies-fits}
-use Rattle.sheet.proofs.GridLaws.{grid-front}
 
 -- ---- the first line, which ends at e
 
@@ -50,7 +51,7 @@ module _ (s : List ℕ) (h : length s ≤ mostBytes) (e : ℕ) (p : PartEnd lf s
       rw (le-ltb mostBytes (length s) h, first-fault g ∙ f)
 
   pub sheet-lines : e < length s → isNumber (take e s) ≡ true → (n : ℕ) → value (take e s) ≡ n → n ≤ mostEvents
-      → sheet s ≡ contents n [] [] (partsFrom s (e + 1)) 2
+      → sheet s ≡ contents words n [] [] (partsFrom s (e + 1)) 2
   unfolding sheet
   sheet-lines g b n v m =
       let f : firstFault (take e s) ≡ 0 = rw (b, v, le-ltb mostEvents n m) in
@@ -65,15 +66,15 @@ pub sheet-refused : (o : Outcome) (s g : List ℕ) (t : Table) (x : SheetAnswer)
 sheet-refused o s g t x r line p e = subst (SheetSays o s g t) (sym e) p
 
 -- contents read, a grid filled, and what the bodies say
-pub sheet-says : (s g g′ : List ℕ) (n a : ℕ) (t : Table) (b : ℕ) → n ≤ mostEvents → ContentsRead s n a t b → take (n * n) g ≡ startGrid n
-    → (x : SheetAnswer) → BodiesSay s (tableNames s n t) (tableCounts n t) n b g g′ x → SheetSays (contents n [] [] (partsFrom s a) 2) s g′ t x
-sheet-says s g g′ n a t b few c f (Refused r line) y = c .says ∙ y
-sheet-says s g g′ n a t b few c f (Events m) y = subst (SheetRead (contents n [] [] (partsFrom s a) 2) s g′ t) (sym (y .events)) read
+pub sheet-says : (known : List Word) (s g g′ : List ℕ) (n a : ℕ) (t : Table) (b : ℕ) → n ≤ mostEvents → ContentsRead known s n a t b → take (n * n) g ≡ startGrid n
+    → (x : SheetAnswer) → BodiesSay known s (tableNames s n t) (tableCounts n t) n b g g′ x → SheetSays (contents known n [] [] (partsFrom s a) 2) s g′ t x
+sheet-says known s g g′ n a t b few c f (Refused r line) y = c .says ∙ y
+sheet-says known s g g′ n a t b few c f (Events m) y = subst (SheetRead (contents known n [] [] (partsFrom s a) 2) s g′ t) (sym (y .events)) read
   where
     many : length (tableNames s n t) ≡ n
     many = names-length s (t .at) (t .len) n
 
-    read : SheetRead (contents n [] [] (partsFrom s a) 2) s g′ t n
+    read : SheetRead (contents known n [] [] (partsFrom s a) 2) s g′ t n
     read =
         record {
           few = few;
@@ -81,6 +82,6 @@ sheet-says s g g′ n a t b few c f (Events m) y = subst (SheetRead (contents n 
           statements = y .new;
           says = c .says ∙ y .says;
           grid = grid-front n g g′ (y .new)
-              (rw many at (bodies-fits (tableNames s n t) (tableCounts n t) (partsFrom s b) (n + 2) (y .new) (omega (arith, many, length-take n (t .count))) (y .says)))
+              (rw many at (bodies-fits known (tableNames s n t) (tableCounts n t) (partsFrom s b) (n + 2) (y .new) (omega (arith, many, length-take n (t .count))) (y .says)))
               f (y .grid);
         }

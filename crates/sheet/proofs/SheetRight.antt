@@ -12,8 +12,9 @@ use denote.Ref.{RefT}
 use Rattle.refusal.specs.Numbers.{numberOf}
 use Rattle.refusal.proofs.NumberLaws.{number-unique}
 use Rattle.grid.specs.Accepted.{Accepted}
+use Rattle.statements.specs.Grid.{gridOf}
+use Rattle.statements.proofs.GridLaws.{grid-accepted}
 use Rattle.sheet.specs.Sheet.{Outcome, refused, accepted, sheet}
-use Rattle.sheet.specs.Grid.{gridOf}
 use Rattle.sheet.specs.Answers.{events, refusal, saidOf, roomCells, outcomeSaid, outcomeRoom, Reads, NamePart}
 use Rattle.sheet.specs.Steps.{tableNames, tableCounts, SheetRead}
 use Rattle.sheet.specs.declared.Table.{Table}
@@ -21,7 +22,6 @@ use Rattle.sheet.specs.declared.SheetAnswer.{SheetAnswer}
 use Rattle.sheet.specs.declared.SheetAnswer.the-variants.{Events, Refused}
 use Rattle.sheet.proofs.ContentsLaws.{names-length}
 use Rattle.sheet.proofs.FitLaws.{sheet-fits}
-use Rattle.sheet.proofs.GridLaws.{grid-accepted}
 
 -- ---- the grid handed out is accepted by every function on grids
 

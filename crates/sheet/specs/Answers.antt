@@ -7,8 +7,8 @@ use lib.Dec.{ltb, eqb}
 use lib.ListN.{length, take, drop, getD}
 use denote.Ref.{RefT}
 use Rattle.refusal.specs.Numbers.{numberOf}
+use Rattle.statements.specs.Grid.{gridOf}
 use Rattle.sheet.specs.Sheet.{Outcome, refused, accepted, parts, sheet}
-use Rattle.sheet.specs.Grid.{gridOf}
 use Rattle.sheet.specs.declared.SheetAnswer.{SheetAnswer}
 use Rattle.sheet.specs.declared.SheetAnswer.the-variants.{Events, Refused}
 

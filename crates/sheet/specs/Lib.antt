@@ -1,4 +1,3 @@
 pub mod Sheet
-pub mod Grid
 pub mod Answers
 pub mod Steps

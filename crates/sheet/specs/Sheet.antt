@@ -7,13 +7,8 @@ use lib.Dec.{ltb, leb, eqb}
 use lib.ListN.{length, getD, drop, replicate}
 use Rattle.text.specs.Text.{split, isNumber, value}
 use Rattle.text.specs.Names.{isName, sameName}
-use Rattle.words.specs.Words.{joined, areWords, union}
-
--- event one to event two, with a set
-pub record Statement : Type 0 where
-  pub one : ℕ
-  pub set : ℕ
-  pub two : ℕ
+use Rattle.words.specs.Words.{Word, words, joined, areWords, union}
+use Rattle.statements.specs.Statements.{Statement}
 
 -- refused: the refusal's number and the line; accepted: the events' names, their numbers of statements, and the statements
 pub data Outcome : Type 0 where
@@ -76,24 +71,28 @@ listed ns m = ltb (find ns m) (length ns)
 abbrev pub entryFault : List (List ℕ) → List ℕ → ℕ
 entryFault ns l = cond (not (isEntry l)) 9 (cond (listed ns (nameIn l)) 10 0)
 
--- ---- the bodies: relation words joined by commas, then the other event's name
+-- ---- the bodies: relation words joined by commas, then the other event's name; `known` are the words there are
 
-abbrev pub setIn : List ℕ → ℕ
-setIn l = union (joined (field 0 l))
+-- the set of a line: the union of its words
+abbrev pub setIn : List Word → List ℕ → ℕ
+setIn known l = union known (joined (field 0 l))
 
+-- the other event's name
 abbrev pub otherIn : List ℕ → List ℕ
 otherIn l = field 1 l
 
-unfoldable pub isStatement : List ℕ → Bool
-isStatement l = eqb (length (fields l)) 2 && areWords (joined (field 0 l)) && isName (otherIn l)
+-- two fields: known words, and a name
+unfoldable pub isStatement : List Word → List ℕ → Bool
+isStatement known l = eqb (length (fields l)) 2 && areWords known (joined (field 0 l)) && isName (otherIn l)
 
 -- in the body of event i: 9, then 11, then 12
-abbrev pub statementFault : List (List ℕ) → ℕ → List ℕ → ℕ
-statementFault ns i l =
-    cond (not (isStatement l)) 9 (cond (not (listed ns (otherIn l))) 11 (cond (eqb (find ns (otherIn l)) i) 12 0))
+abbrev pub statementFault : List Word → List (List ℕ) → ℕ → List ℕ → ℕ
+statementFault known ns i l =
+    cond (not (isStatement known l)) 9 (cond (not (listed ns (otherIn l))) 11 (cond (eqb (find ns (otherIn l)) i) 12 0))
 
-abbrev pub statementIn : List (List ℕ) → ℕ → List ℕ → Statement
-statementIn ns i l = record { one = i; set = setIn l; two = find ns (otherIn l) }
+-- what the line says, in the body of event i
+abbrev pub statementIn : List Word → List (List ℕ) → ℕ → List ℕ → Statement
+statementIn known ns i l = record { one = i; set = setIn known l; two = find ns (otherIn l) }
 
 -- the event of each statement line: event i as often as its number says, then event i + 1
 unfoldable pub owners : ℕ → List ℕ → List ℕ
@@ -122,23 +121,23 @@ ended ps = eqb (length ps) 1 && eqb (length (next ps)) 0
 
 -- The bodies: `ns` and `cs` are the contents, `os` the events of the lines to come, `sts` the statements read, `ps` the parts
 -- of the sheet that are left, and `line` the number of the next line. A line too many is 9.
-unfoldable pub bodies : List (List ℕ) → List ℕ → List ℕ → List Statement → List (List ℕ) → ℕ → Outcome
-bodies ns cs [] sts ps line = cond (ended ps) (accepted ns cs sts) (refused 9 line)
-bodies ns cs (i ∷ os) sts ps line =
-    orRefused (lineFault (statementFault ns i) ps) line
-    (bodies ns cs os (sts ++ statementIn ns i (next ps) ∷ []) (drop 1 ps) (suc line))
+unfoldable pub bodies : List Word → List (List ℕ) → List ℕ → List ℕ → List Statement → List (List ℕ) → ℕ → Outcome
+bodies known ns cs [] sts ps line = cond (ended ps) (accepted ns cs sts) (refused 9 line)
+bodies known ns cs (i ∷ os) sts ps line =
+    orRefused (lineFault (statementFault known ns i) ps) line
+    (bodies known ns cs os (sts ++ statementIn known ns i (next ps) ∷ []) (drop 1 ps) (suc line))
 
 -- The contents: k lines are to come, and `ns` and `cs` were read.
-unfoldable pub contents : ℕ → List (List ℕ) → List ℕ → List (List ℕ) → ℕ → Outcome
-contents zero ns cs ps line = bodies ns cs (owners 0 cs) [] ps line
-contents (suc k) ns cs ps line =
+unfoldable pub contents : List Word → ℕ → List (List ℕ) → List ℕ → List (List ℕ) → ℕ → Outcome
+contents known zero ns cs ps line = bodies known ns cs (owners 0 cs) [] ps line
+contents known (suc k) ns cs ps line =
     orRefused (lineFault (entryFault ns) ps) line
-    (contents k (ns ++ nameIn (next ps) ∷ []) (cs ++ countIn (next ps) ∷ []) (drop 1 ps) (suc line))
+    (contents known k (ns ++ nameIn (next ps) ∷ []) (cs ++ countIn (next ps) ∷ []) (drop 1 ps) (suc line))
 
 -- line 1, and the contents and bodies that it announces
-abbrev pub first : List (List ℕ) → Outcome
-first ps = orRefused (lineFault firstFault ps) 1 (contents (value (next ps)) [] [] (drop 1 ps) 2)
+abbrev pub first : List Word → List (List ℕ) → Outcome
+first known ps = orRefused (lineFault firstFault ps) 1 (contents known (value (next ps)) [] [] (drop 1 ps) 2)
 
--- 8 is looked for before all lines
+-- 8 is looked for before all lines; the words are document 01's
 unfoldable pub sheet : List ℕ → Outcome
-sheet s = cond (ltb mostBytes (length s)) (refused 8 0) (first (parts s))
+sheet s = cond (ltb mostBytes (length s)) (refused 8 0) (first words (parts s))

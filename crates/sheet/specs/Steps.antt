@@ -1,5 +1,5 @@
 -- What the inner functions of the sheet reader say of their steps. A reader of the public statements need not read this.
--- Assumes nothing.
+-- `known` are the words there are. Assumes nothing.
 use mathlib.Core.Path.{_≡_}
 use mathlib.Core.Bool.{true, false, cond}
 use mathlib.Core.List.{List, [], _∷_, _++_}
@@ -10,8 +10,10 @@ use denote.Ref.{RefT}
 use Rattle.refusal.specs.Numbers.{numberOf}
 use Rattle.text.specs.Text.{split}
 use Rattle.text.specs.Names.{longestName}
-use Rattle.sheet.specs.Sheet.{Statement, Outcome, refused, accepted, mostEvents, lf, parts, nameIn, countIn, isEntry, entryFault, find, setIn, otherIn, isStatement, statementFault, owners, next, lineFault, bodies, contents}
-use Rattle.sheet.specs.Grid.{cutAll, gridOf}
+use Rattle.words.specs.Words.{Word}
+use Rattle.statements.specs.Statements.{Statement}
+use Rattle.statements.specs.Grid.{cutAll, gridOf}
+use Rattle.sheet.specs.Sheet.{Outcome, refused, accepted, mostEvents, lf, parts, nameIn, countIn, isEntry, entryFault, find, setIn, otherIn, isStatement, statementFault, owners, next, lineFault, bodies, contents}
 use Rattle.sheet.specs.Answers.{bytesIn, nameStart}
 use Rattle.sheet.specs.declared.EntryForm.{EntryForm}
 use Rattle.sheet.specs.declared.EntryForm.the-variants.{Is as Entry·Is, Bad as Entry·Bad}
@@ -112,66 +114,66 @@ abbrev pub tableCounts : ℕ → Table → List ℕ
 tableCounts n t = take n (t .count)
 
 -- The contents that begin at a are read up to b: the bodies are left.
-pub record ContentsRead (s : List ℕ) (n a : ℕ) (t : Table) (b : ℕ) : Type 0 where
+pub record ContentsRead (known : List Word) (s : List ℕ) (n a : ℕ) (t : Table) (b : ℕ) : Type 0 where
   pub inside : b ≤ length s
   pub table : TableOf s n t
-  pub says : contents n [] [] (partsFrom s a) 2
-      ≡ bodies (tableNames s n t) (tableCounts n t) (owners 0 (tableCounts n t)) [] (partsFrom s b) (n + 2)
+  pub says : contents known n [] [] (partsFrom s a) 2
+      ≡ bodies known (tableNames s n t) (tableCounts n t) (owners 0 (tableCounts n t)) [] (partsFrom s b) (n + 2)
 
-abbrev pub ContentsSay : List ℕ → ℕ → ℕ → Table → Place → Type 0
-ContentsSay s n a t (At b line) = ContentsRead s n a t b
-ContentsSay s n a t (Place·Refused r line) = contents n [] [] (partsFrom s a) 2 ≡ refused (numberOf r) line
+abbrev pub ContentsSay : List Word → List ℕ → ℕ → ℕ → Table → Place → Type 0
+ContentsSay known s n a t (At b line) = ContentsRead known s n a t b
+ContentsSay known s n a t (Place·Refused r line) = contents known n [] [] (partsFrom s a) 2 ≡ refused (numberOf r) line
 
 -- ---- the bodies: each statement cuts the grid
 
 -- a line by itself: its words have k bytes, and u is their set
-pub record StatementIs (l : List ℕ) (k u : ℕ) : Type 0 where
-  pub form : isStatement l ≡ true
+pub record StatementIs (known : List Word) (l : List ℕ) (k u : ℕ) : Type 0 where
+  pub form : isStatement known l ≡ true
   pub inside : k < length l
   pub other : otherIn l ≡ drop (k + 1) l
-  pub set : setIn l ≡ u
+  pub set : setIn known l ≡ u
 
-abbrev pub StatementHas : List ℕ → StatementForm → Type 0
-StatementHas l (Is k u) = StatementIs l k u
-StatementHas l Bad = isStatement l ≡ false
+abbrev pub StatementHas : List Word → List ℕ → StatementForm → Type 0
+StatementHas known l (Is k u) = StatementIs known l k u
+StatementHas known l Bad = isStatement known l ≡ false
 
 -- the line that begins at a, in the body of event i: its set, and event j
-pub record StatementRead (ns : List (List ℕ)) (i : ℕ) (s : List ℕ) (a u j b : ℕ) : Type 0 where
-  pub sound : lineFault (statementFault ns i) (partsFrom s a) ≡ 0
+pub record StatementRead (known : List Word) (ns : List (List ℕ)) (i : ℕ) (s : List ℕ) (a u j b : ℕ) : Type 0 where
+  pub sound : lineFault (statementFault known ns i) (partsFrom s a) ≡ 0
   pub ends : Ends s a b
-  pub set : setIn (next (partsFrom s a)) ≡ u
+  pub set : setIn known (next (partsFrom s a)) ≡ u
   pub other : find ns (otherIn (next (partsFrom s a))) ≡ j
   pub inside : j < length ns
 
-abbrev pub StatementSays : List (List ℕ) → ℕ → List ℕ → ℕ → StatementLine → Type 0
-StatementSays ns i s a (Says u j b) = StatementRead ns i s a u j b
-StatementSays ns i s a (Stop r) = lineFault (statementFault ns i) (partsFrom s a) ≡ numberOf r
+abbrev pub StatementSays : List Word → List (List ℕ) → ℕ → List ℕ → ℕ → StatementLine → Type 0
+StatementSays known ns i s a (Says u j b) = StatementRead known ns i s a u j b
+StatementSays known ns i s a (Stop r) = lineFault (statementFault known ns i) (partsFrom s a) ≡ numberOf r
 
 -- The body of event i, of so many lines, begins at a with the line `first`. It is read up to b, where line `line` begins:
 -- whatever statements sts were read before, and whatever lines os come after.
-pub record BodyRead (s : List ℕ) (ns : List (List ℕ)) (n i lines a first : ℕ) (g g′ : List ℕ) (b line : ℕ) : Type 0 where
+pub record BodyRead (known : List Word) (s : List ℕ) (ns : List (List ℕ)) (n i lines a first : ℕ) (g g′ : List ℕ) (b line : ℕ) : Type 0 where
   pub inside : b ≤ length s
   pub few : line ≤ b + (mostEvents + 2)
   pub new : List Statement
   pub grid : g′ ≡ cutAll n g new
   pub says : (cs os : List ℕ) (sts : List Statement)
-      → bodies ns cs (replicate lines i ++ os) sts (partsFrom s a) first ≡ bodies ns cs os (sts ++ new) (partsFrom s b) line
+      → bodies known ns cs (replicate lines i ++ os) sts (partsFrom s a) first ≡ bodies known ns cs os (sts ++ new) (partsFrom s b) line
 
-abbrev pub BodySays : List ℕ → List (List ℕ) → ℕ → ℕ → ℕ → ℕ → ℕ → List ℕ → List ℕ → Place → Type 0
-BodySays s ns n i lines a first g g′ (At b line) = BodyRead s ns n i lines a first g g′ b line
-BodySays s ns n i lines a first g g′ (Place·Refused r line) =
-    (cs os : List ℕ) (sts : List Statement) → bodies ns cs (replicate lines i ++ os) sts (partsFrom s a) first ≡ refused (numberOf r) line
+abbrev pub BodySays : List Word → List ℕ → List (List ℕ) → ℕ → ℕ → ℕ → ℕ → ℕ → List ℕ → List ℕ → Place → Type 0
+BodySays known s ns n i lines a first g g′ (At b line) = BodyRead known s ns n i lines a first g g′ b line
+BodySays known s ns n i lines a first g g′ (Place·Refused r line) =
+    (cs os : List ℕ) (sts : List Statement) → bodies known ns cs (replicate lines i ++ os) sts (partsFrom s a) first ≡ refused (numberOf r) line
 
 -- All bodies are read, and nothing is left.
-pub record BodiesRead (s : List ℕ) (ns : List (List ℕ)) (cs : List ℕ) (n a : ℕ) (g g′ : List ℕ) (m : ℕ) : Type 0 where
+pub record BodiesRead (known : List Word) (s : List ℕ) (ns : List (List ℕ)) (cs : List ℕ) (n a : ℕ) (g g′ : List ℕ) (m : ℕ) : Type 0 where
   pub events : m ≡ n
   pub new : List Statement
   pub grid : g′ ≡ cutAll n g new
-  pub says : bodies ns cs (owners 0 cs) [] (partsFrom s a) (n + 2) ≡ accepted ns cs new
+  pub says : bodies known ns cs (owners 0 cs) [] (partsFrom s a) (n + 2) ≡ accepted ns cs new
 
-abbrev pub BodiesSay : List ℕ → List (List ℕ) → List ℕ → ℕ → ℕ → List ℕ → List ℕ → SheetAnswer → Type 0
-BodiesSay s ns cs n a g g′ (Events m) = BodiesRead s ns cs n a g g′ m
-BodiesSay s ns cs n a g g′ (Refused r line) = bodies ns cs (owners 0 cs) [] (partsFrom s a) (n + 2) ≡ refused (numberOf r) line
+abbrev pub BodiesSay : List Word → List ℕ → List (List ℕ) → List ℕ → ℕ → ℕ → List ℕ → List ℕ → SheetAnswer → Type 0
+BodiesSay known s ns cs n a g g′ (Events m) = BodiesRead known s ns cs n a g g′ m
+BodiesSay known s ns cs n a g g′ (Refused r line) = bodies known ns cs (owners 0 cs) [] (partsFrom s a) (n + 2) ≡ refused (numberOf r) line
 
 -- ---- the whole sheet
 

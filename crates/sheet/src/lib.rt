@@ -3,8 +3,8 @@ ghost use mathlib.Core.Path.{_≡_};
 ghost use mathlib.Core.List.{[]};
 ghost use Prim.Native.Nat.{_+_, _*_, _≤_, _<_};
 ghost use lib.ListN.{length, take};
+ghost use Rattle.words.specs.Words.{words};
 ghost use Rattle.sheet.specs.Sheet.{mostEvents, find, contents, sheet};
-ghost use Rattle.sheet.specs.Grid.{startCell, startGrid, cutBy};
 ghost use Rattle.sheet.specs.Answers.{roomCells, Reads, NamePart};
 ghost use Rattle.sheet.specs.Steps.{partsFrom, Begins, EntryHas, EntrySays, StatementHas, StatementSays, namesAt, Keeps, ContentsSay, BodySays, BodiesSay, SheetSays, PartAt};
 use grid::EVENTS;
@@ -115,7 +115,7 @@ struct Contents {
 // The n lines of the contents, of which the first is line 2 and begins at start.
 fn contents_of(s: &[u8], n: usize, start: usize) -> Contents
     requires { ⌜ (n ≤ mostEvents) × Begins (now s) 1 start ⌝ }
-    ensures { λ r. ⌜ ContentsSay (now (s .entry)) n start (r .table) (r .place) ⌝ }
+    ensures { λ r. ⌜ ContentsSay words (now (s .entry)) n start (r .table) (r .place) ⌝ }
 {
     let mut at = [0usize; EVENTS];
     let mut len = [0usize; EVENTS];
@@ -152,7 +152,7 @@ enum StatementForm {
 }
 
 fn statement_form(l: &[u8]) -> StatementForm
-    ensures { λ r. ⌜ StatementHas (now (l .entry)) r ⌝ }
+    ensures { λ r. ⌜ StatementHas words (now (l .entry)) r ⌝ }
 {
     match text::two_parts(l, SPACE) {
         Two::Not => StatementForm::Bad,
@@ -186,7 +186,7 @@ fn statement_line(
     a: usize,
 ) -> StatementLine
     requires { ⌜ Keeps (now s) (now at) (now len) n × (a ≤ length (now s)) ⌝ }
-    ensures { λ r. ⌜ StatementSays (namesAt (now (s .entry)) (now (at .entry)) (now (len .entry)) n) i (now (s .entry)) a r ⌝ }
+    ensures { λ r. ⌜ StatementSays words (namesAt (now (s .entry)) (now (at .entry)) (now (len .entry)) n) i (now (s .entry)) a r ⌝ }
 {
     let e = text::part_end(s, a, LF);
     if e == s.len() {
@@ -208,15 +208,6 @@ fn statement_line(
     }
 }
 
-// A statement cuts cell (i, j) to its set, and the mirror with it.
-fn cut(g: &mut [u16], n: usize, i: usize, j: usize, set: u16)
-    requires { ⌜ (n ≤ mostEvents) × (i < n) × (j < n) × (n * n ≤ length (now g)) ⌝ }
-    ensures { λ _. ⌜ now (g .exit) ≡ cutBy n (now (g .entry)) (record { one = i; set = set; two = j }) ⌝ }
-{
-    let old = grid::get(g, n, i, j);
-    grid::put_both(g, n, i, j, old & set);
-}
-
 // The body of event i: so many lines, of which the first is line first and begins at start.
 fn body_of(
     s: &[u8],
@@ -231,7 +222,7 @@ fn body_of(
 ) -> Place
     requires { ⌜ Keeps (now s) (now at) (now len) n ⌝ }
     requires { ⌜ (i < n) × (n ≤ mostEvents) × (n * n ≤ length (now g)) × (start ≤ length (now s)) × (first ≤ start + (mostEvents + 2)) ⌝ }
-    ensures { λ r. ⌜ BodySays (now (s .entry)) (namesAt (now (s .entry)) (now (at .entry)) (now (len .entry)) n) n i lines start first (now (g .entry)) (now (g .exit)) r ⌝ }
+    ensures { λ r. ⌜ BodySays words (now (s .entry)) (namesAt (now (s .entry)) (now (at .entry)) (now (len .entry)) n) n i lines start first (now (g .entry)) (now (g .exit)) r ⌝ }
 {
     let mut a = start;
     let mut k = 0;
@@ -241,7 +232,7 @@ fn body_of(
                 return Place::Refused(r, first + k);
             }
             StatementLine::Says(u, j, next) => {
-                cut(g, n, i, j, u);
+                statements::cut(g, n, i, j, u);
                 a = next;
             }
         }
@@ -268,7 +259,7 @@ fn bodies_of(
 ) -> SheetAnswer
     requires { ⌜ Keeps (now s) (now at) (now len) n ⌝ }
     requires { ⌜ (n ≤ length (now count)) × (n ≤ mostEvents) × (n * n ≤ length (now g)) × (start ≤ length (now s)) ⌝ }
-    ensures { λ r. ⌜ BodiesSay (now (s .entry)) (namesAt (now (s .entry)) (now (at .entry)) (now (len .entry)) n) (take n (now (count .entry))) n start (now (g .entry)) (now (g .exit)) r ⌝ }
+    ensures { λ r. ⌜ BodiesSay words (now (s .entry)) (namesAt (now (s .entry)) (now (at .entry)) (now (len .entry)) n) (take n (now (count .entry))) n start (now (g .entry)) (now (g .exit)) r ⌝ }
 {
     let mut a = start;
     let mut line = n + 2;
@@ -292,27 +283,6 @@ fn bodies_of(
     }
 }
 
-// What place p of the grid holds before any statement.
-fn start_cell(n: usize, p: usize) -> u16
-    requires { ⌜ 0 < n ⌝ }
-    ensures { λ r. ⌜ r ≡ startCell n p ⌝ }
-{
-    if p / n == p % n { grid::EQ } else { grid::ALL }
-}
-
-// Any for each pair, eq for an event to itself.
-fn fill_start(g: &mut [u16], n: usize)
-    requires { ⌜ (n ≤ mostEvents) × (n * n ≤ length (now g)) ⌝ }
-    ensures { λ _. ⌜ take (n * n) (now (g .exit)) ≡ startGrid n ⌝ }
-{
-    let m = n * n;
-    let mut p = 0;
-    while p < m {
-        g[p] = start_cell(n, p);
-        p += 1;
-    }
-}
-
 // The answer to a sheet, and its table of contents.
 pub struct Reading {
     pub table: Table,
@@ -322,7 +292,7 @@ pub struct Reading {
 // The contents and the bodies, from line 2 on, which begins at start.
 fn lines_into(s: &[u8], n: usize, start: usize, g: &mut [u16]) -> Reading
     requires { ⌜ (n ≤ mostEvents) × Begins (now s) 1 start × (n * n ≤ length (now g)) ⌝ }
-    ensures { λ r. ⌜ SheetSays (contents n [] [] (partsFrom (now (s .entry)) start) 2) (now (s .entry)) (now (g .exit)) (r .table) (r .answer) ⌝ }
+    ensures { λ r. ⌜ SheetSays (contents words n [] [] (partsFrom (now (s .entry)) start) 2) (now (s .entry)) (now (g .exit)) (r .table) (r .answer) ⌝ }
 {
     let contents = contents_of(s, n, start);
     let table = contents.table;
@@ -336,7 +306,7 @@ fn lines_into(s: &[u8], n: usize, start: usize, g: &mut [u16]) -> Reading
             let at = table.at;
             let len = table.len;
             let count = table.count;
-            fill_start(g, n);
+            statements::fill_start(g, n);
             let answer = bodies_of(s, &at, &len, &count, n, next, g);
             Reading { table, answer }
         }

@@ -12,13 +12,15 @@ use Rattle.quick.specs.Answers.{quickRule}
 use Rattle.text.specs.Text.{isNumber}
 use Rattle.text.specs.Names.{isName, sameName}
 use Rattle.words.specs.Words.{words, meaning}
-use Rattle.sheet.specs.Sheet.{Statement, Outcome, accepted, isEntry, isStatement, owners, bodies, contents, sheet}
-use Rattle.sheet.specs.Grid.{startGrid, cutBy, cutAll, gridOf}
-use Rattle.shown.proofs.Worked.{set, closes, closing, closingOf, mill, worked, printed}
+use Rattle.statements.specs.Statements.{Statement}
+use Rattle.statements.specs.Grid.{startGrid, cutBy, cutAll, gridOf}
+use Rattle.statements.proofs.StatementLaws.{st}
+use Rattle.sheet.specs.Sheet.{Outcome, accepted, isEntry, isStatement, owners, bodies, contents, sheet}
+use Rattle.shown.proofs.Worked.{closes, closing, closingOf, mill, worked, printed}
 
 -- the sheet's three events, and its statements: flood {d} mill, wedding {b,m} flood
 abbrev told : List Statement
-told = record { one = 1; set = 256; two = 0 } ∷ record { one = 2; set = 5; two = 1 } ∷ []
+told = st 1 256 0 ∷ st 2 5 1 ∷ []
 
 abbrev toldGrid : List ℕ
 toldGrid = 4096 ∷ 512 ∷ 8191 ∷ 256 ∷ 4096 ∷ 10 ∷ 8191 ∷ 5 ∷ 4096 ∷ []

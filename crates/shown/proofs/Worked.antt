@@ -7,8 +7,8 @@ use Rattle.grid.specs.Cells.{cell}
 use Rattle.theory.specs.Quick.{Ended, contradiction, closed, paused}
 use Rattle.quick.specs.Answers.{quickRule}
 use Rattle.text.specs.Text.{bytes}
+use Rattle.statements.specs.Grid.{gridOf}
 use Rattle.sheet.specs.Sheet.{Outcome, refused, accepted, sheet}
-use Rattle.sheet.specs.Grid.{gridOf}
 
 -- what an example shows: a set; a cell of a closed grid and the takes; a contradiction and its takes; or something else
 pub data Shown : Type 0 where

@@ -20,7 +20,7 @@ use Rattle.relation.specs.Comparing.{relOf}
 use Rattle.relation.proofs.Tested.{T-of, all, all-at}
 use Rattle.relation.proofs.SetLaws.{member-mark}
 use Rattle.relation.proofs.Relations.{relOf-lt, exactly-one}
-use Rattle.words.specs.Words.{Word, words, meansIn, meaning, comma, areWords, unionFrom}
+use Rattle.words.specs.Words.{Word, words, meaning, comma, areWords, unionFrom}
 use Rattle.words.specs.Steps.{noWord, wordAt, filledUp, lettersColumn, lengthsColumn, setsColumn, unionWith}
 use Rattle.words.specs.declared.Union.the-variants.{Set, Not}
 
@@ -70,43 +70,46 @@ module _ (k : ℕ) where
         ap (λ (t : List (List ℕ)). getD (getD t k []) i 0) e ∙ ap (λ (r : List ℕ). getD r i 0) (filled-at words k (omega (arith, h, seventeen)))
         ∙ List·getD-append (wordAt k .name) (replicate (9 - length (wordAt k .name)) 32) 0 i l
 
-module _ (ws : List Word) (w : List ℕ) (k : ℕ) where
-  pub word-hit : k < length ws → same (getD ws k noWord .name) w ≡ true → meansIn (drop k ws) w ≡ getD ws k noWord .means
-  word-hit h e = rw (drop-cons ws k noWord, e)
+module _ (known : List Word) (w : List ℕ) (k : ℕ) where
+  pub word-hit : k < length known → same (getD known k noWord .name) w ≡ true → meaning (drop k known) w ≡ getD known k noWord .means
+  unfolding meaning
+  word-hit h e = rw (drop-cons known k noWord, e)
 
-  pub word-miss : k < length ws → same (getD ws k noWord .name) w ≡ false → meansIn (drop k ws) w ≡ meansIn (drop (k + 1) ws) w
-  word-miss h e = rw (drop-cons ws k noWord, e, add-one)
+  pub word-miss : k < length known → same (getD known k noWord .name) w ≡ false → meaning (drop k known) w ≡ meaning (drop (k + 1) known) w
+  unfolding meaning
+  word-miss h e = rw (drop-cons known k noWord, e, add-one)
 
-  pub word-end : length ws ≤ k → meansIn (drop k ws) w ≡ 0
+  pub word-end : length known ≤ k → meaning (drop k known) w ≡ 0
+  unfolding meaning
   word-end h = rw drop-of-length-le
 
 -- ---- one word of a field: m is the meaning of the part from a to e
 
-module _ (f : List ℕ) (a e u m : ℕ) (p : PartEnd comma f a e) (q : m ≡ meaning (take (e - a) (drop a f))) where
-  known : (m ≡ 0 → ⊥) → eqb (meaning (take (e - a) (drop a f))) 0 ≡ false
-  known z = ne-eqb (meaning (take (e - a) (drop a f))) 0 (λ y. z (q ∙ y))
+module _ (known : List Word) (f : List ℕ) (a e u m : ℕ) (p : PartEnd comma f a e) (q : m ≡ meaning known (take (e - a) (drop a f))) where
+  is-known : (m ≡ 0 → ⊥) → eqb (meaning known (take (e - a) (drop a f))) 0 ≡ false
+  is-known z = ne-eqb (meaning known (take (e - a) (drop a f))) 0 (λ y. z (q ∙ y))
 
-  pub union-bad : m ≡ 0 → unionWith u (split comma (drop a f)) ≡ Not
+  pub union-bad : m ≡ 0 → unionWith known u (split comma (drop a f)) ≡ Not
   union-bad z = rw (p .parts, ← q, eq-eqb m 0 z)
 
-  pub union-more : (m ≡ 0 → ⊥) → e < length f → unionWith u (split comma (drop a f)) ≡ unionWith (bitOr u m) (split comma (drop (e + 1) f))
-  union-more z h = rw (p .parts, after-next comma f e h, q, known z)
+  pub union-more : (m ≡ 0 → ⊥) → e < length f → unionWith known u (split comma (drop a f)) ≡ unionWith known (bitOr u m) (split comma (drop (e + 1) f))
+  union-more z h = rw (p .parts, after-next comma f e h, q, is-known z)
 
-  pub union-done : (m ≡ 0 → ⊥) → length f ≤ e → unionWith u (split comma (drop a f)) ≡ Set (bitOr u m)
-  union-done z h = rw (p .parts, after-last comma f e h, q, known z)
+  pub union-done : (m ≡ 0 → ⊥) → length f ≤ e → unionWith known u (split comma (drop a f)) ≡ Set (bitOr u m)
+  union-done z h = rw (p .parts, after-last comma f e h, q, is-known z)
 
 -- ---- each name is tied to its relation
 
-name-test : T (all 13 (λ r. eqb (meaning (bytes (relation r .name))) (2 ^ r)))
+name-test : T (all 13 (λ r. eqb (meaning words (bytes (relation r .name))) (2 ^ r)))
 unfolding meaning words
 name-test = tt
 
 -- the set of relation r's name has the relation between X and Y exactly if relation r holds
-pub name-means : (r : ℕ) → r < 13 → (X Y : Event) → T (member (relOf X Y) (meaning (bytes (relation r .name)))) ↔ holds r X Y
+pub name-means : (r : ℕ) → r < 13 → (X Y : Event) → T (member (relOf X Y) (meaning words (bytes (relation r .name)))) ↔ holds r X Y
 name-means r h X Y =
-    let mark : meaning (bytes (relation r .name)) ≡ 2 ^ r =
-    eqb→eq (meaning (bytes (relation r .name))) (2 ^ r) (all-at 13 (λ r. eqb (meaning (bytes (relation r .name))) (2 ^ r)) name-test r h) in
-    let has : member (relOf X Y) (meaning (bytes (relation r .name))) ≡ eqb (relOf X Y) r =
+    let mark : meaning words (bytes (relation r .name)) ≡ 2 ^ r =
+    eqb→eq (meaning words (bytes (relation r .name))) (2 ^ r) (all-at 13 (λ r. eqb (meaning words (bytes (relation r .name))) (2 ^ r)) name-test r h) in
+    let has : member (relOf X Y) (meaning words (bytes (relation r .name))) ≡ eqb (relOf X Y) r =
     ap (member (relOf X Y)) mark ∙ member-mark r (relOf X Y) h (relOf-lt X Y) in (
       λ w. exactly-one r X Y .1 (eqb→eq (relOf X Y) r (subst T has w)),
       λ w. subst T (sym has) (T-of (eq-eqb (relOf X Y) r (exactly-one r X Y .0 w))),
@@ -114,17 +117,17 @@ name-means r h X Y =
 
 -- ---- what an answer of union_of says
 
-module _ (u : ℕ) (ws : List (List ℕ)) where
-  pub union-is : (v : ℕ) → unionWith u ws ≡ Set v → (areWords ws ≡ true) × (unionFrom u ws ≡ v)
-  union-is v e = by (areWords ws) e
+module _ (known : List Word) (u : ℕ) (ws : List (List ℕ)) where
+  pub union-is : (v : ℕ) → unionWith known u ws ≡ Set v → (areWords known ws ≡ true) × (unionFrom known u ws ≡ v)
+  union-is v e = by (areWords known ws) e
     where
-      by : (t : Bool) → cond t (Set (unionFrom u ws)) Not ≡ Set v → (t ≡ true) × (unionFrom u ws ≡ v)
+      by : (t : Bool) → cond t (Set (unionFrom known u ws)) Not ≡ Set v → (t ≡ true) × (unionFrom known u ws ≡ v)
       by true e = (refl, (cc))
       by false e = let z : _≡_ {A = ℕ} 0 1 = cc in absurd (omega arith)
 
-  pub union-not : unionWith u ws ≡ Not → areWords ws ≡ false
-  union-not e = by (areWords ws) e
+  pub union-not : unionWith known u ws ≡ Not → areWords known ws ≡ false
+  union-not e = by (areWords known ws) e
     where
-      by : (t : Bool) → cond t (Set (unionFrom u ws)) Not ≡ Not → t ≡ false
+      by : (t : Bool) → cond t (Set (unionFrom known u ws)) Not ≡ Not → t ≡ false
       by true e = let z : _≡_ {A = ℕ} 0 1 = cc in absurd (omega arith)
       by false e = refl

@@ -27,6 +27,6 @@ lengthsColumn = map (λ w. length (w .name)) words
 abbrev pub setsColumn : List ℕ
 setsColumn = map (λ w. w .means) words
 
--- the union of a set and the words' sets, or none where one is no word
-abbrev pub unionWith : ℕ → List (List ℕ) → Union
-unionWith u ws = cond (areWords ws) (Set (unionFrom u ws)) Not
+-- the union of a set and the words' sets, or none where one is not known
+abbrev pub unionWith : List Word → ℕ → List (List ℕ) → Union
+unionWith known u ws = cond (areWords known ws) (Set (unionFrom known u ws)) Not

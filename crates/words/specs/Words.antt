@@ -13,13 +13,14 @@ pub record Word : Type 0 where
   pub name : List ℕ
   pub means : ℕ
 
+-- a word by its letters
 abbrev pub word : String → ℕ → Word
 word name means = record { name = bytes name; means = means }
 
--- the set of the word that is written so, or 0, which no word means
-abbrev pub meansIn : List Word → List ℕ → ℕ
-meansIn [] w = 0
-meansIn (x ∷ xs) w = cond (same (x .name) w) (x .means) (meansIn xs w)
+-- the set of the known word that is written so, or 0, which no word means
+unfoldable pub meaning : List Word → List ℕ → ℕ
+meaning [] w = 0
+meaning (x ∷ known) w = cond (same (x .name) w) (x .means) (meaning known w)
 
 -- the names of a list of relations, each with its mark: the first is relation r
 abbrev pub namesFrom : ℕ → List Relation → List Word
@@ -33,7 +34,7 @@ names = namesFrom 0 relations
 -- the set of the relations that are named so
 abbrev pub setNamed : List String → ℕ
 setNamed [] = 0
-setNamed (x ∷ xs) = bitOr (meansIn names (bytes x)) (setNamed xs)
+setNamed (x ∷ xs) = bitOr (meaning names (bytes x)) (setNamed xs)
 
 -- four further words
 abbrev pub further : List Word
@@ -44,11 +45,11 @@ further =
     ∷ word "until" (setNamed ("m" ∷ []))
     ∷ []
 
+-- the words of a sheet
 unfoldable pub words : List Word
 words = names ++ further
 
-unfoldable pub meaning : List ℕ → ℕ
-meaning w = meansIn words w
+-- ---- the words of a field; `known` are the words there are
 
 -- words are joined by commas
 abbrev pub comma : ℕ
@@ -57,15 +58,16 @@ comma = 44
 abbrev pub joined : List ℕ → List (List ℕ)
 joined f = split comma f
 
--- each is a word
-abbrev pub areWords : List (List ℕ) → Bool
-areWords [] = true
-areWords (w ∷ ws) = not (eqb (meaning w) 0) && areWords ws
+-- each is a known word
+abbrev pub areWords : List Word → List (List ℕ) → Bool
+areWords known [] = true
+areWords known (w ∷ ws) = not (eqb (meaning known w) 0) && areWords known ws
 
 -- the union of the words' sets, with a set u
-abbrev pub unionFrom : ℕ → List (List ℕ) → ℕ
-unionFrom u [] = u
-unionFrom u (w ∷ ws) = unionFrom (bitOr u (meaning w)) ws
+abbrev pub unionFrom : List Word → ℕ → List (List ℕ) → ℕ
+unionFrom known u [] = u
+unionFrom known u (w ∷ ws) = unionFrom known (bitOr u (meaning known w)) ws
 
-abbrev pub union : List (List ℕ) → ℕ
-union ws = unionFrom 0 ws
+-- the union of the words' sets
+abbrev pub union : List Word → List (List ℕ) → ℕ
+union known ws = unionFrom known 0 ws

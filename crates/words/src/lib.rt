@@ -2,7 +2,7 @@
 ghost use mathlib.Core.Path.{_≡_};
 ghost use Prim.Native.Nat.{_<_};
 ghost use Rattle.text.specs.Text.{same};
-ghost use Rattle.words.specs.Words.{meaning, joined};
+ghost use Rattle.words.specs.Words.{words, meaning, joined};
 ghost use Rattle.words.specs.Steps.{wordAt, lettersColumn, lengthsColumn, unionWith};
 
 const COUNT: usize = 17;
@@ -76,7 +76,7 @@ fn is_word(letters: &[[u8; 9]; COUNT], lengths: &[u8; COUNT], k: usize, w: &[u8]
 
 // The set of a word, or 0 where it is none.
 fn meaning_of(w: &[u8]) -> u16
-    ensures { λ r. ⌜ r ≡ meaning (now (w .entry)) ⌝ }
+    ensures { λ r. ⌜ r ≡ meaning words (now (w .entry)) ⌝ }
 {
     let letters = WORDS;
     let lengths = LENGTHS;
@@ -99,7 +99,7 @@ pub enum Union {
 
 // The union of the words of a field, or none where a part between commas is no word.
 pub fn union_of(f: &[u8]) -> Union
-    ensures { λ r. ⌜ r ≡ unionWith 0 (joined (now (f .entry))) ⌝ }
+    ensures { λ r. ⌜ r ≡ unionWith words 0 (joined (now (f .entry))) ⌝ }
 {
     let mut u: u16 = 0;
     let mut a = 0;

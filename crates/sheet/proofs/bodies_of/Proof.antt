@@ -5,12 +5,15 @@ use Prim.Native.Nat.{ℕ, _+_, _-_, _≤_}
 use native.Mathlib.Omega.{arith}
 use lib.ListN.{length, take, drop, getD, replicate}
 use lib.Seq.{length-take-le, getD-take}
-use Rattle.sheet.specs.Sheet.{Statement, mostEvents, owners, bodies}
-use Rattle.sheet.specs.Grid.{cutAll}
+use Rattle.words.specs.Words.{words}
+use Rattle.statements.specs.Statements.{Statement}
+use Rattle.statements.specs.Grid.{cutAll}
+use Rattle.statements.proofs.GridLaws.{cut-append}
+use Rattle.sheet.specs.Sheet.{mostEvents, owners, bodies}
 use Rattle.sheet.specs.Steps.{partsFrom, BodyRead, BodySays, namesAt}
 use Rattle.sheet.specs.declared.Place.{Place}
 use Rattle.sheet.specs.declared.Place.the-variants.{At, Refused}
-use Rattle.sheet.proofs.BodyLaws.{bodies-cong, owners-next, bodies-done, bodies-over, cut-append}
+use Rattle.sheet.proofs.BodyLaws.{bodies-cong, owners-next, bodies-done, bodies-over}
 use borrow.Author.Needs.{needs}
 use Rattle.sheet.proofs.bodies_of.Statement.{statement}
 use Rattle.sheet.proofs.bodies_of.Tie as tie
@@ -23,7 +26,7 @@ record SoFar (s : List ℕ) (ns : List (List ℕ)) (cs : List ℕ) (n start : �
   long : length g ≡ length g₀
   new : List Statement
   grid : g ≡ cutAll n g₀ new
-  says : bodies ns cs (owners 0 cs) [] (partsFrom s start) (n + 2) ≡ bodies ns cs (owners i (drop i cs)) new (partsFrom s a) line
+  says : bodies words ns cs (owners 0 cs) [] (partsFrom s start) (n + 2) ≡ bodies words ns cs (owners i (drop i cs)) new (partsFrom s a) line
 
 abbrev Inv-loop : tie.InvT-loop
 Inv-loop s at len count n start g₀ a₀ line₀ i₀ g a line i = SoFar s (namesAt s at len n) (take n count) n start g₀ g a line i
@@ -52,13 +55,13 @@ Rest A = owners (A .loop .i + 1) (drop (A .loop .i + 1) (Counts A))
 
 -- the reading stands at this body
 here : (F : tie.After-body-of Inv-loop μ-loop) → let A = L F in
-    bodies (Names A) (Counts A) (owners 0 (Counts A)) [] (partsFrom (S A .args .s .now) (S A .args .start)) (S A .args .n + 2)
-    ≡ bodies (Names A) (Counts A) (replicate (getD (S A .args .count .now) (A .loop .i) 0) (A .loop .i) ++ Rest A) (A .loop .inv .new) (partsFrom (S A .args .s .now) (A .loop .a)) (A .loop .line)
+    bodies words (Names A) (Counts A) (owners 0 (Counts A)) [] (partsFrom (S A .args .s .now) (S A .args .start)) (S A .args .n + 2)
+    ≡ bodies words (Names A) (Counts A) (replicate (getD (S A .args .count .now) (A .loop .i) 0) (A .loop .i) ++ Rest A) (A .loop .inv .new) (partsFrom (S A .args .s .now) (A .loop .a)) (A .loop .line)
 here F =
     let A = L F in
     let h = F .before .before .before .loop-test .taken in
     A .loop .inv .says
-    ∙ bodies-cong (Names A) (Counts A)
+    ∙ bodies-cong words (Names A) (Counts A)
     (owners-next (A .loop .i) (Counts A) (omega (arith, many A))
     ∙ ap (λ (k : ℕ). replicate k (A .loop .i) ++ Rest A) (getD-take (S A .args .n) (S A .args .count .now) (A .loop .i) 0 h))
     refl refl refl
@@ -68,8 +71,8 @@ abbrev G : tie.After-body-of Inv-loop μ-loop → List ℕ
 G F = F .body-of .last .1 .1 .1 .1 .1 .1 .1 .1 .0
 
 says : (F : tie.After-body-of Inv-loop μ-loop) (x : Place) → F .body-of .result ≡ x → let A = L F in
-    BodySays (S A .args .s .now) (Names A) (S A .args .n) (A .loop .i) (getD (S A .args .count .now) (A .loop .i) 0) (A .loop .a) (A .loop .line) (A .loop .g) (G F) x
-says F x e = let A = L F in subst (BodySays (S A .args .s .now) (Names A) (S A .args .n) (A .loop .i) (getD (S A .args .count .now) (A .loop .i) 0) (A .loop .a) (A .loop .line) (A .loop .g) (G F)) e (F .body-of .ensures)
+    BodySays words (S A .args .s .now) (Names A) (S A .args .n) (A .loop .i) (getD (S A .args .count .now) (A .loop .i) 0) (A .loop .a) (A .loop .line) (A .loop .g) (G F) x
+says F x e = let A = L F in subst (BodySays words (S A .args .s .now) (Names A) (S A .args .n) (A .loop .i) (getD (S A .args .count .now) (A .loop .i) 0) (A .loop .a) (A .loop .line) (A .loop .g) (G F)) e (F .body-of .ensures)
 
 kept : (F : tie.After-body-of Inv-loop μ-loop) → length (G F) ≡ length (S (L F) .args .g .now)
 kept F = F .body-of .kept .1 .1 .1 .1 .1 .1 .1 .1 .0 ∙ L F .loop .inv .long
@@ -130,7 +133,7 @@ loop-again c =
     let A = L F in
     let I = A .loop .inv in
     let p = c .before .next .given in
-    let y : BodyRead (S A .args .s .now) (Names A) (S A .args .n) (A .loop .i) (getD (S A .args .count .now) (A .loop .i) 0) (A .loop .a) (A .loop .line) (A .loop .g) (G F) (p .0 .0) (p .0 .1 .0) = says F (At (p .0 .0) (p .0 .1 .0)) (p .1) in
+    let y : BodyRead words (S A .args .s .now) (Names A) (S A .args .n) (A .loop .i) (getD (S A .args .count .now) (A .loop .i) 0) (A .loop .a) (A .loop .line) (A .loop .g) (G F) (p .0 .0) (p .0 .1 .0) = says F (At (p .0 .0) (p .0 .1 .0)) (p .1) in
     record {
       few = omega (arith, F .before .before .before .loop-test .taken);
       inside = y .inside;
@@ -152,7 +155,7 @@ returns-2 c =
       events = refl;
       new = I .new;
       grid = I .grid;
-      says = I .says ∙ bodies-done (Names A) (Counts A) (A .loop .i) (I .new) (S A .args .s .now) (A .loop .a) (A .loop .line) (omega (arith, many A, c .before .loop-test .left)) (omega (arith, c .if1 .taken));
+      says = I .says ∙ bodies-done words (Names A) (Counts A) (A .loop .i) (I .new) (S A .args .s .now) (A .loop .a) (A .loop .line) (omega (arith, many A, c .before .loop-test .left)) (omega (arith, c .if1 .taken));
     }
 
 same-length-3 : tie.Need-same-length-3 Inv-loop μ-loop
@@ -162,7 +165,7 @@ returns-3 : tie.Need-returns-3 Inv-loop μ-loop
 returns-3 c =
     let A = c .before .before in
     let I = A .loop .inv in
-    I .says ∙ bodies-over (Names A) (Counts A) (A .loop .i) (I .new) (S A .args .s .now) (A .loop .a) (A .loop .line) (omega (arith, many A, c .before .loop-test .left)) (omega (arith, c .if1 .left, I .inside))
+    I .says ∙ bodies-over words (Names A) (Counts A) (A .loop .i) (I .new) (S A .args .s .now) (A .loop .a) (A .loop .line) (omega (arith, many A, c .before .loop-test .left)) (omega (arith, c .if1 .left, I .inside))
 
 pub bodies-of-spec : {M : Type 1} → statement M
 bodies-of-spec =

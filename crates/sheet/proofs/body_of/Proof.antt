@@ -5,13 +5,17 @@ use Prim.Native.Nat.{ℕ, suc, _+_, _-_, _≤_}
 use native.Mathlib.Omega.{arith}
 use native.Mathlib.Nat.{sub-zero}
 use lib.ListN.{length, replicate}
-use Rattle.sheet.specs.Sheet.{Statement, mostEvents, bodies}
-use Rattle.sheet.specs.Grid.{cutBy, cutAll}
+use Rattle.words.specs.Words.{words}
+use Rattle.statements.specs.Statements.{Statement}
+use Rattle.statements.specs.Grid.{cutBy, cutAll}
+use Rattle.statements.proofs.StatementLaws.{st, statement-same}
+use Rattle.statements.proofs.GridLaws.{cut-length, cut-more}
+use Rattle.sheet.specs.Sheet.{mostEvents, bodies}
 use Rattle.sheet.specs.Steps.{partsFrom, StatementRead, StatementSays, namesAt}
 use Rattle.sheet.specs.declared.StatementLine.{StatementLine}
 use Rattle.sheet.specs.declared.StatementLine.the-variants.{Says, Stop}
 use Rattle.sheet.proofs.ContentsLaws.{names-length}
-use Rattle.sheet.proofs.BodyLaws.{st, statement-same, bodies-stop, bodies-read, bodies-cong, cut-length, cut-more}
+use Rattle.sheet.proofs.BodyLaws.{bodies-stop, bodies-read, bodies-cong}
 use borrow.Author.Needs.{needs}
 use Rattle.sheet.proofs.body_of.Statement.{statement}
 use Rattle.sheet.proofs.body_of.Tie as tie
@@ -25,7 +29,7 @@ record SoFar (s : List ℕ) (ns : List (List ℕ)) (n i lines start first : ℕ)
   new : List Statement
   grid : g ≡ cutAll n g₀ new
   says : (cs os : List ℕ) (sts : List Statement)
-      → bodies ns cs (replicate lines i ++ os) sts (partsFrom s start) first ≡ bodies ns cs (replicate (lines - k) i ++ os) (sts ++ new) (partsFrom s a) (first + k)
+      → bodies words ns cs (replicate lines i ++ os) sts (partsFrom s start) first ≡ bodies words ns cs (replicate (lines - k) i ++ os) (sts ++ new) (partsFrom s a) (first + k)
 
 abbrev Inv-loop : tie.InvT-loop
 Inv-loop s at len n i lines start first g₀ a₀ k₀ g a k = SoFar s (namesAt s at len n) n i lines start first g₀ g a k
@@ -48,24 +52,24 @@ Rest A os = replicate (S A .args .lines - (A .loop .k + 1)) (S A .args .i) ++ os
 
 -- the reading stands at this line
 here : (E : tie.After-statement-line Inv-loop μ-loop) (cs os : List ℕ) (sts : List Statement) → let A = L E in
-    bodies (Names A) cs (replicate (S A .args .lines) (S A .args .i) ++ os) sts (partsFrom (S A .args .s .now) (S A .args .start)) (S A .args .first)
-    ≡ bodies (Names A) cs (S A .args .i ∷ Rest A os) (sts ++ A .loop .inv .new) (partsFrom (S A .args .s .now) (A .loop .a)) (S A .args .first + A .loop .k)
+    bodies words (Names A) cs (replicate (S A .args .lines) (S A .args .i) ++ os) sts (partsFrom (S A .args .s .now) (S A .args .start)) (S A .args .first)
+    ≡ bodies words (Names A) cs (S A .args .i ∷ Rest A os) (sts ++ A .loop .inv .new) (partsFrom (S A .args .s .now) (A .loop .a)) (S A .args .first + A .loop .k)
 here E cs os sts =
     let A = L E in
     let q : S A .args .lines - A .loop .k ≡ suc (S A .args .lines - (A .loop .k + 1)) = omega (arith, E .before .loop-test .taken) in
     A .loop .inv .says cs os sts
-    ∙ bodies-cong (Names A) cs (ap (λ (x : ℕ). replicate x (S A .args .i) ++ os) q) refl refl refl
+    ∙ bodies-cong words (Names A) cs (ap (λ (x : ℕ). replicate x (S A .args .i) ++ os) q) refl refl refl
 
 -- what the line says
 says : (E : tie.After-statement-line Inv-loop μ-loop) (x : StatementLine) → E .statement-line .result ≡ x
-    → StatementSays (Names (L E)) (S (L E) .args .i) (S (L E) .args .s .now) (L E .loop .a) x
-says E x e = subst (StatementSays (Names (L E)) (S (L E) .args .i) (S (L E) .args .s .now) (L E .loop .a)) e (E .statement-line .ensures)
+    → StatementSays words (Names (L E)) (S (L E) .args .i) (S (L E) .args .s .now) (L E .loop .a) x
+says E x e = subst (StatementSays words (Names (L E)) (S (L E) .args .i) (S (L E) .args .s .now) (L E .loop .a)) e (E .statement-line .ensures)
 
 abbrev E : tie.After-u Inv-loop μ-loop → tie.After-statement-line Inv-loop μ-loop
 E U = U .before .before
 
 said : (U : tie.After-u Inv-loop μ-loop)
-    → StatementRead (Names (L (E U))) (S (L (E U)) .args .i) (S (L (E U)) .args .s .now) (L (E U) .loop .a) (U .u .given .0 .0) (U .u .given .0 .1 .0) (U .u .given .0 .1 .1 .0)
+    → StatementRead words (Names (L (E U))) (S (L (E U)) .args .i) (S (L (E U)) .args .s .now) (L (E U) .loop .a) (U .u .given .0 .0) (U .u .given .0 .1 .0) (U .u .given .0 .1 .1 .0)
 said U = says (E U) (Says (U .u .given .0 .0) (U .u .given .0 .1 .0) (U .u .given .0 .1 .1 .0)) (U .u .given .1)
 
 many : (A : tie.At-loop Inv-loop μ-loop) → length (Names A) ≡ S A .args .n
@@ -82,7 +86,7 @@ loop-holds c =
       long = refl;
       new = [];
       grid = refl;
-      says = λ cs os sts. bodies-cong _ cs (rw sub-zero) (sym (append-nil sts)) refl (omega arith);
+      says = λ cs os sts. bodies-cong words _ cs (rw sub-zero) (sym (append-nil sts)) refl (omega arith);
     }
 
 statement-line-requires : tie.Need-statement-line-requires Inv-loop μ-loop
@@ -102,7 +106,7 @@ returns c =
     let F = c .before .before .before in
     let A = L F in
     let r = c .before .r .given in
-    λ cs os sts. here F cs os sts ∙ bodies-stop (Names A) cs (S A .args .i) (Rest A os) (sts ++ A .loop .inv .new) (partsFrom (S A .args .s .now) (A .loop .a)) (S A .args .first + A .loop .k) (r .0 .0) (says F (Stop (r .0 .0)) (r .1))
+    λ cs os sts. here F cs os sts ∙ bodies-stop words (Names A) cs (S A .args .i) (Rest A os) (sts ++ A .loop .inv .new) (partsFrom (S A .args .s .now) (A .loop .a)) (S A .args .first + A .loop .k) (r .0 .0) (says F (Stop (r .0 .0)) (r .1))
 
 enum-known-u : tie.Need-enum-known-u Inv-loop μ-loop
 enum-known-u c = search needs
@@ -144,8 +148,8 @@ loop-again c =
       grid = C .cut .ensures ∙ ap (λ (g : List ℕ). cutBy (S A .args .n) g x) (I .grid) ∙ sym (cut-more (S A .args .n) (S A .args .g .now) (I .new) x);
       says = λ cs os sts.
           here F cs os sts
-          ∙ bodies-read (Names A) cs (S A .args .i) (Rest A os) (sts ++ I .new) (partsFrom (S A .args .s .now) (A .loop .a)) (S A .args .first + A .loop .k) (w .sound)
-          ∙ bodies-cong (Names A) cs refl
+          ∙ bodies-read words (Names A) cs (S A .args .i) (Rest A os) (sts ++ I .new) (partsFrom (S A .args .s .now) (A .loop .a)) (S A .args .first + A .loop .k) (w .sound)
+          ∙ bodies-cong words (Names A) cs refl
           (append-assoc sts (I .new) _ ∙ ap (λ (t : Statement). sts ++ (I .new ++ t ∷ [])) (statement-same (w .set) (w .other)))
           (w .ends .rest)
           (omega arith);
@@ -167,7 +171,7 @@ returns-2 c =
       few = I .short;
       new = I .new;
       grid = I .grid;
-      says = λ cs os sts. I .says cs os sts ∙ bodies-cong (Names A) cs (ap (λ (x : ℕ). replicate x (S A .args .i) ++ os) z) refl refl refl;
+      says = λ cs os sts. I .says cs os sts ∙ bodies-cong words (Names A) cs (ap (λ (x : ℕ). replicate x (S A .args .i) ++ os) z) refl refl refl;
     }
 
 pub body-of-spec : {M : Type 1} → statement M

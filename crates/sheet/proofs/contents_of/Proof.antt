@@ -7,6 +7,7 @@ use native.Mathlib.Nat.{sub-zero}
 use native.Mathlib.Numerals.{add-one}
 use lib.ListN.{length, take, length-set}
 use lib.Seq.{take-suc-set}
+use Rattle.words.specs.Words.{words}
 use Rattle.sheet.specs.Sheet.{mostEvents, contents}
 use Rattle.sheet.specs.Steps.{partsFrom, Begins, EntryRead, EntrySays, namesAt, Within, Starts}
 use Rattle.sheet.specs.declared.EntryLine.{EntryLine}
@@ -26,7 +27,7 @@ record SoFar (s : List ℕ) (n start : ℕ) (at len count : List ℕ) (a i : ℕ
   within : Within s at len i
   starts : Starts s at i
   begins : Begins s (i + 1) a
-  says : contents n [] [] (partsFrom s start) 2 ≡ contents (n - i) (namesAt s at len i) (take i count) (partsFrom s a) (i + 2)
+  says : contents words n [] [] (partsFrom s start) 2 ≡ contents words (n - i) (namesAt s at len i) (take i count) (partsFrom s a) (i + 2)
 
 abbrev Inv-loop : tie.InvT-loop
 Inv-loop s n start at₀ len₀ count₀ a₀ i₀ at len count a i = SoFar s n start at len count a i
@@ -88,7 +89,7 @@ returns c =
     let E = c .before .before .before in
     let r = c .before .r .given in
     L E .loop .inv .says
-    ∙ contents-stop (S E .args .n - L E .loop .i) (S E .args .n - (L E .loop .i + 1)) (more E) (Names E) (take (L E .loop .i) (L E .loop .count)) (partsFrom (S E .args .s .now) (L E .loop .a)) (L E .loop .i + 2)
+    ∙ contents-stop words (S E .args .n - L E .loop .i) (S E .args .n - (L E .loop .i + 1)) (more E) (Names E) (take (L E .loop .i) (L E .loop .count)) (partsFrom (S E .args .s .now) (L E .loop .a)) (L E .loop .i + 2)
     (r .0 .0) (says E (Stop (r .0 .0)) (r .1))
 
 enum-known-k : tie.Need-enum-known-k Inv-loop μ-loop
@@ -143,8 +144,8 @@ loop-again c =
       begins = begins-next s (i + 1) (L E .loop .a) b (I .begins) (e .ends);
       says =
           I .says
-          ∙ contents-read (S E .args .n - i) (S E .args .n - (i + 1)) (more E) (Names E) (take i (L E .loop .count)) (partsFrom s (L E .loop .a)) (i + 2) (e .sound)
-          ∙ contents-cong (S E .args .n - (i + 1))
+          ∙ contents-read words (S E .args .n - i) (S E .args .n - (i + 1)) (more E) (Names E) (take i (L E .loop .count)) (partsFrom s (L E .loop .a)) (i + 2) (e .sound)
+          ∙ contents-cong words (S E .args .n - (i + 1))
           (ap (λ (x : List ℕ). Names E ++ x ∷ []) (e .name) ∙ sym (names-more s (L E .loop .at) (L E .loop .len) i (L E .loop .a) k ha hl))
           (ap (λ (x : ℕ). take i (L E .loop .count) ++ x ∷ []) (e .count) ∙ sym (rw add-one (take-suc-set (L E .loop .count) i v hc)))
           (e .ends .rest)
@@ -173,9 +174,9 @@ returns-2 c =
       };
       says =
           subst
-          (λ (x : ℕ). contents n [] [] (partsFrom s (Z .args .start)) 2 ≡ contents (n - x) (namesAt s (A .loop .at) (A .loop .len) x) (take x (A .loop .count)) (partsFrom s (A .loop .a)) (x + 2))
+          (λ (x : ℕ). contents words n [] [] (partsFrom s (Z .args .start)) 2 ≡ contents words (n - x) (namesAt s (A .loop .at) (A .loop .len) x) (take x (A .loop .count)) (partsFrom s (A .loop .a)) (x + 2))
           e (I .says)
-          ∙ contents-done (n - n) (omega arith) (namesAt s (A .loop .at) (A .loop .len) n) (take n (A .loop .count)) (partsFrom s (A .loop .a)) (n + 2);
+          ∙ contents-done words (n - n) (omega arith) (namesAt s (A .loop .at) (A .loop .len) n) (take n (A .loop .count)) (partsFrom s (A .loop .a)) (n + 2);
     }
 
 pub contents-of-spec : {M : Type 1} → statement M

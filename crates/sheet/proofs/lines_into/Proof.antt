@@ -1,6 +1,7 @@
 -- The contents are refused, or they leave the bodies, which say the rest over the grid filled.
 use mathlib.Core.Path.{_≡_, subst}
 use native.Mathlib.Omega.{arith}
+use Rattle.words.specs.Words.{words}
 use Rattle.sheet.specs.Steps.{ContentsRead, ContentsSay}
 use Rattle.sheet.specs.declared.Place.{Place}
 use Rattle.sheet.specs.declared.Place.the-variants.{At, Refused}
@@ -13,14 +14,14 @@ use Rattle.sheet.proofs.lines_into.Tie as tie
 abbrev S : tie.After-contents-of → tie.Start
 S C = C .before .before .before
 
-says : (C : tie.After-contents-of) (x : Place) → C .contents-of .result .place ≡ x → ContentsSay (S C .args .s .now) (S C .args .n) (S C .args .start) (C .contents-of .result .table) x
-says C x e = subst (ContentsSay (S C .args .s .now) (S C .args .n) (S C .args .start) (C .contents-of .result .table)) e (C .contents-of .ensures)
+says : (C : tie.After-contents-of) (x : Place) → C .contents-of .result .place ≡ x → ContentsSay words (S C .args .s .now) (S C .args .n) (S C .args .start) (C .contents-of .result .table) x
+says C x e = subst (ContentsSay words (S C .args .s .now) (S C .args .n) (S C .args .start) (C .contents-of .result .table)) e (C .contents-of .ensures)
 
 -- the contents are read
 abbrev C : tie.After-place2 → tie.After-contents-of
 C P = P .before .before .before
 
-listed : (P : tie.After-place2) → ContentsRead (S (C P) .args .s .now) (S (C P) .args .n) (S (C P) .args .start) (C P .contents-of .result .table) (P .place2 .given .0 .0)
+listed : (P : tie.After-place2) → ContentsRead words (S (C P) .args .s .now) (S (C P) .args .n) (S (C P) .args .start) (C P .contents-of .result .table) (P .place2 .given .0 .0)
 listed P = says (C P) (At (P .place2 .given .0 .0) (P .place2 .given .0 .1 .0)) (P .place2 .given .1)
 
 -- and the grid is filled
@@ -68,7 +69,7 @@ returns-2 c =
     let B = c .before .before in
     let G = B .before .before .before .before .before .before .before in
     let Z = S (C (P G)) in
-    sheet-says (Z .args .s .now) (G .fill-start .last .0) (B .bodies-of .last .1 .1 .1 .1 .1 .1 .0) (Z .args .n) (Z .args .start) (C (P G) .contents-of .result .table) (P G .place2 .given .0 .0)
+    sheet-says words (Z .args .s .now) (G .fill-start .last .0) (B .bodies-of .last .1 .1 .1 .1 .1 .1 .0) (Z .args .n) (Z .args .start) (C (P G) .contents-of .result .table) (P G .place2 .given .0 .0)
     (Z .pre .0) (listed (P G)) (G .fill-start .ensures) (B .bodies-of .result) (B .bodies-of .ensures)
 
 pub lines-into-spec : {M : Type 1} → statement M

@@ -10,7 +10,7 @@ use Rattle.text.specs.Names.{isName}
 use Rattle.text.specs.Steps.{TwoParts}
 use Rattle.text.specs.declared.Two.the-variants.{At}
 use Rattle.text.proofs.PartLaws.{take-rest}
-use Rattle.words.specs.Words.{joined, areWords, union}
+use Rattle.words.specs.Words.{words, joined, areWords, union}
 use Rattle.words.proofs.WordLaws.{union-is, union-not}
 use Rattle.sheet.specs.Sheet.{space}
 use Rattle.sheet.proofs.BodyLaws.{statement-fields, statement-words, statement-name, statement-is}
@@ -32,8 +32,8 @@ K U = U .before .before .before .before .before
 abbrev Words : tie.After-u → List (List ℕ)
 Words U = joined (take (K U .k .given .0 .0) (S (K U) .args .l .now))
 
-said : (U : tie.After-u) → (areWords (Words U) ≡ true) × (union (Words U) ≡ U .u .given .0 .0)
-said U = union-is 0 (Words U) (U .u .given .0 .0) (sym (U .before .before .union-of .ensures) ∙ U .u .given .1)
+said : (U : tie.After-u) → (areWords words (Words U) ≡ true) × (union words (Words U) ≡ U .u .given .0 .0)
+said U = union-is words 0 (Words U) (U .u .given .0 .0) (sym (U .before .before .union-of .ensures) ∙ U .u .given .1)
 
 -- the second was looked at as a name
 other : (N : tie.After-is-name) → let U = N .before .before .before in isName (drop (K U .k .given .0 .0 + 1) (S (K U) .args .l .now)) ≡ N .is-name .result
@@ -76,22 +76,22 @@ is-name-requires : tie.Need-is-name-requires
 is-name-requires c κs = search needs
 
 returns : tie.Need-returns
-returns c = let P = c .before .before in statement-fields (P .before .before .args .l .now) (subst (TwoParts space (P .before .before .args .l .now)) (c .enum-told .given .1) (P .two-parts .ensures))
+returns c = let P = c .before .before in statement-fields words (P .before .before .args .l .now) (subst (TwoParts space (P .before .before .args .l .now)) (c .enum-told .given .1) (P .two-parts .ensures))
 
 returns-2 : tie.Need-returns-2
-returns-2 c = let K = c .before .before .before .before .before in statement-words (S K .args .l .now) (K .k .given .0 .0) (two K .0) (two K .1) (union-not 0 (joined (take (K .k .given .0 .0) (S K .args .l .now))) (sym (c .before .before .union-of .ensures) ∙ c .enum-told2 .given .1))
+returns-2 c = let K = c .before .before .before .before .before in statement-words words (S K .args .l .now) (K .k .given .0 .0) (two K .0) (two K .1) (union-not words 0 (joined (take (K .k .given .0 .0) (S K .args .l .now))) (sym (c .before .before .union-of .ensures) ∙ c .enum-told2 .given .1))
 
 returns-3 : tie.Need-returns-3
 returns-3 c =
     let N = c .before in
     let U = N .before .before .before in
-    statement-is (S (K U) .args .l .now) (K U .k .given .0 .0) (two (K U) .0) (two (K U) .1) (U .u .given .0 .0) (said U .0) (said U .1) (other N ∙ c .if1 .taken)
+    statement-is words (S (K U) .args .l .now) (K U .k .given .0 .0) (two (K U) .0) (two (K U) .1) (U .u .given .0 .0) (said U .0) (said U .1) (other N ∙ c .if1 .taken)
 
 returns-4 : tie.Need-returns-4
 returns-4 c =
     let N = c .before in
     let U = N .before .before .before in
-    statement-name (S (K U) .args .l .now) (K U .k .given .0 .0) (two (K U) .0) (two (K U) .1) (said U .0) (other N ∙ c .if1 .left)
+    statement-name words (S (K U) .args .l .now) (K U .k .given .0 .0) (two (K U) .0) (two (K U) .1) (said U .0) (other N ∙ c .if1 .left)
 
 pub statement-form-spec : {M : Type 1} → statement M
 statement-form-spec =

@@ -4,6 +4,7 @@ use mathlib.Core.List.{List}
 use Prim.Native.Nat.{ℕ, _+_, _-_, _≤_, _<_}
 use native.Mathlib.Omega.{arith}
 use lib.ListN.{length, take, drop}
+use Rattle.words.specs.Words.{words}
 use Rattle.sheet.specs.Sheet.{otherIn, find, statementFault}
 use Rattle.sheet.specs.Steps.{StatementIs, StatementHas, namesAt}
 use Rattle.sheet.proofs.LineLaws.{line-missing}
@@ -30,11 +31,11 @@ P K = K .before .before .before .before .before
 inside : (K : tie.After-k) → P K .part-end .result < length (S (P K) .args .s .now)
 inside K = omega (arith, K .before .before .before .before .if1 .left, P K .part-end .ensures .high)
 
-said : (K : tie.After-k) → StatementIs (Ln (P K)) (K .k .given .0 .0) (K .k .given .0 .1 .0)
-said K = subst (StatementHas (Ln (P K))) (K .k .given .1) (K .before .before .statement-form .ensures)
+said : (K : tie.After-k) → StatementIs words (Ln (P K)) (K .k .given .0 .0) (K .k .given .0 .1 .0)
+said K = subst (StatementHas words (Ln (P K))) (K .k .given .1) (K .before .before .statement-form .ensures)
 
 fits : (K : tie.After-k) → S (P K) .args .a + K .k .given .0 .0 + 1 ≤ P K .part-end .result
-fits K = other-fits (Names (P K)) (S (P K) .args .i) (S (P K) .args .s .now) (S (P K) .args .a) (P K .part-end .result) (P K .part-end .ensures) (inside K) (K .k .given .0 .0) (K .k .given .0 .1 .0) (said K)
+fits K = other-fits words (Names (P K)) (S (P K) .args .i) (S (P K) .args .s .now) (S (P K) .args .a) (P K .part-end .result) (P K .part-end .ensures) (inside K) (K .k .given .0 .0) (K .k .given .0 .1 .0) (said K)
 
 -- what the look-up finds, and how many names there are
 abbrev K : tie.After-find-name → tie.After-k
@@ -43,7 +44,7 @@ K F = F .before .before .before
 found : (F : tie.After-find-name) → F .find-name .result ≡ find (Names (P (K F))) (otherIn (Ln (P (K F))))
 found F =
     F .find-name .ensures
-    ∙ ap (λ (m : List ℕ). find (Names (P (K F))) m) (other-bytes (Names (P (K F))) (S (P (K F)) .args .i) (S (P (K F)) .args .s .now) (S (P (K F)) .args .a) (P (K F) .part-end .result) (P (K F) .part-end .ensures) (inside (K F)) (K F .k .given .0 .0) (K F .k .given .0 .1 .0) (said (K F)))
+    ∙ ap (λ (m : List ℕ). find (Names (P (K F))) m) (other-bytes words (Names (P (K F))) (S (P (K F)) .args .i) (S (P (K F)) .args .s .now) (S (P (K F)) .args .a) (P (K F) .part-end .result) (P (K F) .part-end .ensures) (inside (K F)) (K F .k .given .0 .0) (K F .k .given .0 .1 .0) (said (K F)))
 
 many : (Q : tie.After-part-end) → length (Names Q) ≡ S Q .args .n
 many Q = names-length (S Q .args .s .now) (S Q .args .at .now) (S Q .args .len .now) (S Q .args .n)
@@ -55,7 +56,7 @@ part-end-requires : tie.Need-part-end-requires
 part-end-requires c κs = search needs
 
 returns : tie.Need-returns
-returns c = let Q = c .before in line-missing (S Q .args .s .now) (S Q .args .a) (Q .part-end .result) (Q .part-end .ensures) (statementFault (Names Q) (S Q .args .i)) (omega arith)
+returns c = let Q = c .before in line-missing (S Q .args .s .now) (S Q .args .a) (Q .part-end .result) (Q .part-end .ensures) (statementFault words (Names Q) (S Q .args .i)) (omega arith)
 
 sub-statement-form : tie.Need-sub-statement-form
 sub-statement-form c = search needs
@@ -99,26 +100,26 @@ add-t31 c = omega (arith, inside (K (c .before .before)))
 returns-2 : tie.Need-returns-2
 returns-2 c =
     let Q = c .before .before .before .before .before in
-    read-9 (Names Q) (S Q .args .i) (S Q .args .s .now) (S Q .args .a) (Q .part-end .result) (Q .part-end .ensures) (omega (arith, c .before .before .before .before .if1 .left, Q .part-end .ensures .high))
-    (subst (StatementHas (Ln Q)) (c .enum-told .given .1) (c .before .before .statement-form .ensures))
+    read-9 words (Names Q) (S Q .args .i) (S Q .args .s .now) (S Q .args .a) (Q .part-end .result) (Q .part-end .ensures) (omega (arith, c .before .before .before .before .if1 .left, Q .part-end .ensures .high))
+    (subst (StatementHas words (Ln Q)) (c .enum-told .given .1) (c .before .before .statement-form .ensures))
 
 returns-3 : tie.Need-returns-3
 returns-3 c =
     let F = c .before in
     let Q = P (K F) in
-    read-11 (Names Q) (S Q .args .i) (S Q .args .s .now) (S Q .args .a) (Q .part-end .result) (Q .part-end .ensures) (inside (K F)) (K F .k .given .0 .0) (K F .k .given .0 .1 .0) (said (K F)) (F .find-name .result) (found F) (omega (arith, many Q, c .if2 .taken))
+    read-11 words (Names Q) (S Q .args .i) (S Q .args .s .now) (S Q .args .a) (Q .part-end .result) (Q .part-end .ensures) (inside (K F)) (K F .k .given .0 .0) (K F .k .given .0 .1 .0) (said (K F)) (F .find-name .result) (found F) (omega (arith, many Q, c .if2 .taken))
 
 returns-4 : tie.Need-returns-4
 returns-4 c =
     let F = c .before .before in
     let Q = P (K F) in
-    read-12 (Names Q) (S Q .args .i) (S Q .args .s .now) (S Q .args .a) (Q .part-end .result) (Q .part-end .ensures) (inside (K F)) (K F .k .given .0 .0) (K F .k .given .0 .1 .0) (said (K F)) (F .find-name .result) (found F) (listed F (c .before .if2 .left)) (c .if3 .taken)
+    read-12 words (Names Q) (S Q .args .i) (S Q .args .s .now) (S Q .args .a) (Q .part-end .result) (Q .part-end .ensures) (inside (K F)) (K F .k .given .0 .0) (K F .k .given .0 .1 .0) (said (K F)) (F .find-name .result) (found F) (listed F (c .before .if2 .left)) (c .if3 .taken)
 
 returns-5 : tie.Need-returns-5
 returns-5 c =
     let F = c .before .before in
     let Q = P (K F) in
-    read-says (Names Q) (S Q .args .i) (S Q .args .s .now) (S Q .args .a) (Q .part-end .result) (Q .part-end .ensures) (inside (K F)) (K F .k .given .0 .0) (K F .k .given .0 .1 .0) (said (K F)) (F .find-name .result) (found F) (listed F (c .before .if2 .left)) (c .if3 .left)
+    read-says words (Names Q) (S Q .args .i) (S Q .args .s .now) (S Q .args .a) (Q .part-end .result) (Q .part-end .ensures) (inside (K F)) (K F .k .given .0 .0) (K F .k .given .0 .1 .0) (said (K F)) (F .find-name .result) (found F) (listed F (c .before .if2 .left)) (c .if3 .left)
 
 pub statement-line-spec : {M : Type 1} → statement M
 statement-line-spec =

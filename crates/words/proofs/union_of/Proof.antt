@@ -4,7 +4,7 @@ use Prim.Native.Nat.{_-_, _≤_, _<_}
 use native.Mathlib.Omega.{arith}
 use lib.ListN.{length, drop}
 use Rattle.text.specs.Text.{split}
-use Rattle.words.specs.Words.{comma, joined}
+use Rattle.words.specs.Words.{words, comma, joined}
 use Rattle.words.specs.Steps.{unionWith}
 use Rattle.words.proofs.WordLaws.{union-bad, union-more, union-done}
 use borrow.Author.Needs.{needs}
@@ -12,7 +12,7 @@ use Rattle.words.proofs.union_of.Statement.{statement}
 use Rattle.words.proofs.union_of.Tie as tie
 
 abbrev Inv-loop : tie.InvT-loop
-Inv-loop f u₀ a₀ u a = (a ≤ length f) × (unionWith 0 (joined f) ≡ unionWith u (split comma (drop a f)))
+Inv-loop f u₀ a₀ u a = (a ≤ length f) × (unionWith words 0 (joined f) ≡ unionWith words u (split comma (drop a f)))
 
 abbrev μ-loop : tie.MeasureT-loop
 μ-loop f u₀ a₀ u a = length f - a
@@ -40,14 +40,14 @@ returns c =
     let M = c .before in
     let P = M .before .before in
     let L = P .before in
-    sym (L .loop .inv .1 ∙ union-bad (L .before .before .args .f .now) (L .loop .a) (P .part-end .result) (L .loop .u) (M .meaning-of .result) (P .part-end .ensures) (M .meaning-of .ensures) (c .if1 .taken))
+    sym (L .loop .inv .1 ∙ union-bad words (L .before .before .args .f .now) (L .loop .a) (P .part-end .result) (L .loop .u) (M .meaning-of .result) (P .part-end .ensures) (M .meaning-of .ensures) (c .if1 .taken))
 
 returns-2 : tie.Need-returns-2 Inv-loop μ-loop
 returns-2 c =
     let M = c .before .before in
     let P = M .before .before in
     let L = P .before in
-    sym (L .loop .inv .1 ∙ union-done (L .before .before .args .f .now) (L .loop .a) (P .part-end .result) (L .loop .u) (M .meaning-of .result) (P .part-end .ensures) (M .meaning-of .ensures) (c .before .if1 .left) (omega arith))
+    sym (L .loop .inv .1 ∙ union-done words (L .before .before .args .f .now) (L .loop .a) (P .part-end .result) (L .loop .u) (M .meaning-of .result) (P .part-end .ensures) (M .meaning-of .ensures) (c .before .if1 .left) (omega arith))
 
 add-a : tie.Need-add-a Inv-loop μ-loop
 add-a c = search needs
@@ -61,7 +61,7 @@ loop-again c =
     let P = M .before .before in
     let L = P .before in
     let h : P .part-end .result < length (L .before .before .args .f .now) = omega arith in
-    (omega arith, L .loop .inv .1 ∙ union-more (L .before .before .args .f .now) (L .loop .a) (P .part-end .result) (L .loop .u) (M .meaning-of .result) (P .part-end .ensures) (M .meaning-of .ensures) (c .before .if1 .left) h)
+    (omega arith, L .loop .inv .1 ∙ union-more words (L .before .before .args .f .now) (L .loop .a) (P .part-end .result) (L .loop .u) (M .meaning-of .result) (P .part-end .ensures) (M .meaning-of .ensures) (c .before .if1 .left) h)
 
 pub union-of-spec : {M : Type 1} → statement M
 union-of-spec =

@@ -4,10 +4,10 @@ use Prim.Native.Nat.{ℕ}
 use lib.Bits.{bitAnd}
 use Rattle.relation.specs.Composition.{converse}
 use Rattle.grid.specs.Cells.{putBoth}
-use Rattle.sheet.specs.Grid.{cutBy}
+use Rattle.statements.specs.Grid.{cutBy}
 use borrow.Author.Needs.{needs}
-use Rattle.sheet.proofs.cut.Statement.{statement}
-use Rattle.sheet.proofs.cut.Tie as tie
+use Rattle.statements.proofs.cut.Statement.{statement}
+use Rattle.statements.proofs.cut.Tie as tie
 
 get-requires : tie.Need-get-requires
 get-requires c κs = search needs

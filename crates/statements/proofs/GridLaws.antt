@@ -1,7 +1,8 @@
--- The grid of a sheet's statements is accepted by every function on grids; it stands in the front of a longer room. Assumes nothing.
+-- The grid of a list of statements: the start, what a cut leaves of each cell, that the grid is accepted by every function on grids,
+-- and that it stands in the front of a longer room. Assumes nothing.
 use mathlib.Core.Path.{_≡_, refl, sym, _∙_, ap}
 use mathlib.Core.Bool.{cond}
-use mathlib.Core.List.{List, [], _∷_}
+use mathlib.Core.List.{List, [], _∷_, _++_}
 use Prim.Native.Nat.{ℕ, _+_, _*_, _≤_, _<_}
 use native.Mathlib.Omega.{arith}
 use native.Mathlib.Decide.{ℕ-discrete}
@@ -16,9 +17,8 @@ use Rattle.relation.proofs.ExchangeLaws.{converse-lt, converse-twice, converse-
 use Rattle.grid.specs.Cells.{cell, put, putBoth}
 use Rattle.grid.specs.Accepted.{Accepted}
 use Rattle.grid.proofs.CellLaws.{upTo-length, upTo-at, putBoth-length, cell-both-here, cell-both-mirror, cell-both-other}
-use Rattle.sheet.specs.Sheet.{Statement, mostEvents}
-use Rattle.sheet.specs.Grid.{startCell, startGrid, leftBy, cutBy, cutAll, gridOf}
-use Rattle.sheet.proofs.FitLaws.{Fits, AllFit}
+use Rattle.statements.specs.Statements.{Statement, Fits, AllFit}
+use Rattle.statements.specs.Grid.{startCell, startGrid, leftBy, cutBy, cutAll, gridOf}
 
 -- ---- the start
 
@@ -37,7 +37,7 @@ module _ (n i j : ℕ) (hi : i < n) (hj : j < n) where
   pub start-other : (i ≡ j → ⊥) → cell n (startGrid n) i j ≡ 8191
   start-other e = start-at ∙ rw (ne-eqb i j e)
 
-pub start-accepted : (n : ℕ) → n ≤ mostEvents → Accepted n (startGrid n)
+pub start-accepted : (n : ℕ) → n ≤ 32 → Accepted n (startGrid n)
 start-accepted n h =
     record {
       few = h;
@@ -73,6 +73,24 @@ side i j x y = at (ℕ-discrete x i) (ℕ-discrete y j) (ℕ-discrete x j) (ℕ-
     at (no a) b (yes c) (no d) = other (λ w. a (w .0)) (λ w. d (w .1))
     at (no a) b (no c) d = other (λ w. a (w .0)) (λ w. c (w .0))
 
+module _ (n : ℕ) (g : List ℕ) (has : n * n ≤ length g) (t : Statement) (f : Fits n t) where
+  pub cut-here : cell n (cutBy n g t) (t .one) (t .two) ≡ leftBy n g t
+  unfolding cutBy
+  cut-here = cell-both-here converse n g has (t .one) (t .two) (leftBy n g t) (f .one-in) (f .two-in) (f .apart)
+
+  pub cut-mirror : cell n (cutBy n g t) (t .two) (t .one) ≡ converse (leftBy n g t)
+  unfolding cutBy
+  cut-mirror = cell-both-mirror converse n g has (t .one) (t .two) (leftBy n g t) (f .one-in) (f .two-in)
+
+  module _ (x y : ℕ) (hy : y < n) (p : (x ≡ t .one) × (y ≡ t .two) → ⊥) (q : (x ≡ t .two) × (y ≡ t .one) → ⊥) where
+    pub cut-other : cell n (cutBy n g t) x y ≡ cell n g x y
+    unfolding cutBy
+    cut-other = cell-both-other converse n g has (t .one) (t .two) (leftBy n g t) (f .one-in) (f .two-in) x y hy p q
+
+pub cut-length : (n : ℕ) (g : List ℕ) (t : Statement) → length (cutBy n g t) ≡ length g
+unfolding cutBy
+cut-length n g t = putBoth-length converse n g (t .one) (t .two) (leftBy n g t)
+
 module _ (n : ℕ) (g : List ℕ) (a : Accepted n g) (t : Statement) (f : Fits n t) where
   -- the new set, and that the grid has the place
   abbrev left : ℕ
@@ -83,48 +101,34 @@ module _ (n : ℕ) (g : List ℕ) (a : Accepted n g) (t : Statement) (f : Fits n
       let h : left ≤ cell n g (t .one) (t .two) = and-le-l _ _ in
       omega (arith, a .small (t .one) (t .two) (f .one-in) (f .two-in))
 
-  has : n * n ≤ length g
+  pub has : n * n ≤ length g
   has = omega (arith, a .long)
-
-  pub cut-here : cell n (cutBy n g t) (t .one) (t .two) ≡ leftBy n g t
-  unfolding cutBy
-  cut-here = cell-both-here converse n g has (t .one) (t .two) left (f .one-in) (f .two-in) (f .apart)
-
-  pub cut-mirror : cell n (cutBy n g t) (t .two) (t .one) ≡ converse (leftBy n g t)
-  unfolding cutBy
-  cut-mirror = cell-both-mirror converse n g has (t .one) (t .two) left (f .one-in) (f .two-in)
-
-  module _ (x y : ℕ) (hy : y < n) (p : (x ≡ t .one) × (y ≡ t .two) → ⊥) (q : (x ≡ t .two) × (y ≡ t .one) → ⊥) where
-    pub cut-other : cell n (cutBy n g t) x y ≡ cell n g x y
-    unfolding cutBy
-    cut-other = cell-both-other converse n g has (t .one) (t .two) left (f .one-in) (f .two-in) x y hy p q
 
   cut-small : (x y : ℕ) → x < n → y < n → cell n (cutBy n g t) x y ≤ 8191
   cut-small x y hx hy = by (side (t .one) (t .two) x y)
     where
       by : Side (t .one) (t .two) x y → cell n (cutBy n g t) x y ≤ 8191
-      by (here p q) = rw (p, q, cut-here) left-small
-      by (mirror p q) = rw (p, q, cut-mirror) (omega (arith, converse-lt left))
-      by (other p q) = rw (cut-other x y hy p q) (a .small x y hx hy)
+      by (here p q) = rw (p, q, cut-here n g has t f) left-small
+      by (mirror p q) = rw (p, q, cut-mirror n g has t f) (omega (arith, converse-lt left))
+      by (other p q) = rw (cut-other n g has t f x y hy p q) (a .small x y hx hy)
 
   cut-mirrored : (x y : ℕ) → x < n → y < n → cell n (cutBy n g t) y x ≡ converse (cell n (cutBy n g t) x y)
   cut-mirrored x y hx hy = by (side (t .one) (t .two) x y)
     where
       by : Side (t .one) (t .two) x y → cell n (cutBy n g t) y x ≡ converse (cell n (cutBy n g t) x y)
-      by (here p q) = rw (p, q, cut-here, cut-mirror)
-      by (mirror p q) = rw (p, q, cut-here, cut-mirror) (sym (converse-twice left (omega (arith, left-small))))
+      by (here p q) = rw (p, q, cut-here n g has t f, cut-mirror n g has t f)
+      by (mirror p q) = rw (p, q, cut-here n g has t f, cut-mirror n g has t f) (sym (converse-twice left (omega (arith, left-small))))
       by (other p q) =
-          cut-other y x hx (λ w. q (w .1, w .0)) (λ w. p (w .1, w .0)) ∙ a .mirrored x y hx hy ∙ ap converse (sym (cut-other x y hy p q))
+          cut-other n g has t f y x hx (λ w. q (w .1, w .0)) (λ w. p (w .1, w .0)) ∙ a .mirrored x y hx hy ∙ ap converse (sym (cut-other n g has t f x y hy p q))
 
   pub cut-accepted : Accepted n (cutBy n g t)
-  unfolding cutBy
   cut-accepted =
       record {
         few = a .few;
-        long = putBoth-length converse n g (t .one) (t .two) left ∙ a .long;
+        long = cut-length n g t ∙ a .long;
         small = cut-small;
         diagonal = λ x hx.
-            cut-other x x hx (λ w. f .apart (sym (w .0) ∙ w .1)) (λ w. f .apart (sym (w .1) ∙ w .0)) ∙ a .diagonal x hx;
+            cut-other n g has t f x x hx (λ w. f .apart (sym (w .0) ∙ w .1)) (λ w. f .apart (sym (w .1) ∙ w .0)) ∙ a .diagonal x hx;
         mirrored = cut-mirrored;
       }
 
@@ -133,9 +137,21 @@ unfolding cutAll
 cuts-accepted n g [] a f = a
 cuts-accepted n g (t ∷ sts) a f = cuts-accepted n (cutBy n g t) sts (cut-accepted n g a t (f .0)) (f .1)
 
-pub grid-accepted : (n : ℕ) (sts : List Statement) → n ≤ mostEvents → AllFit n sts → Accepted n (gridOf n sts)
+pub grid-accepted : (n : ℕ) (sts : List Statement) → n ≤ 32 → AllFit n sts → Accepted n (gridOf n sts)
 unfolding gridOf
 grid-accepted n sts h f = cuts-accepted n (startGrid n) sts (start-accepted n h) f
+
+-- ---- more statements
+
+pub cut-more : (n : ℕ) (g : List ℕ) (new : List Statement) (t : Statement) → cutAll n g (new ++ t ∷ []) ≡ cutBy n (cutAll n g new) t
+unfolding cutAll
+cut-more n g [] t = refl
+cut-more n g (x ∷ new) t = cut-more n (cutBy n g x) new t
+
+pub cut-append : (n : ℕ) (g : List ℕ) (xs ys : List Statement) → cutAll n (cutAll n g xs) ys ≡ cutAll n g (xs ++ ys)
+unfolding cutAll
+cut-append n g [] ys = refl
+cut-append n g (x ∷ xs) ys = cut-append n (cutBy n g x) xs ys
 
 -- ---- the grid in the front of a room
 

@@ -1,8 +1,8 @@
 -- The test is that of the definition.
 use borrow.Author.Tests.{eq-eqb, ne-eqb}
 use borrow.Author.Needs.{needs}
-use Rattle.sheet.proofs.start_cell.Statement.{statement}
-use Rattle.sheet.proofs.start_cell.Tie as tie
+use Rattle.statements.proofs.start_cell.Statement.{statement}
+use Rattle.statements.proofs.start_cell.Tie as tie
 
 div-if1 : tie.Need-div-if1
 div-if1 c = search needs

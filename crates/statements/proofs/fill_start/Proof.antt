@@ -7,14 +7,13 @@ use native.Mathlib.Nat.{mul-le-mul-right}
 use native.Mathlib.Numerals.{add-one}
 use lib.ListN.{length, take, length-set}
 use lib.Seq.{take-suc-set}
-use Rattle.sheet.specs.Sheet.{mostEvents}
 use Rattle.grid.specs.Cells.{upTo}
-use Rattle.sheet.specs.Grid.{startCell, startGrid}
-use Rattle.sheet.proofs.fill_start.Statement.{statement}
-use Rattle.sheet.proofs.fill_start.Tie as tie
+use Rattle.statements.specs.Grid.{startCell, startGrid}
+use Rattle.statements.proofs.fill_start.Statement.{statement}
+use Rattle.statements.proofs.fill_start.Tie as tie
 
 abbrev Inv-loop : tie.InvT-loop
-Inv-loop g₀ n m p₀ g p = (p ≤ m) × (m ≡ n * n) × (n ≤ mostEvents) × (m ≤ mostEvents * n) × (length g ≡ length g₀) × (take p g ≡ upTo p (startCell n))
+Inv-loop g₀ n m p₀ g p = (p ≤ m) × (m ≡ n * n) × (n ≤ 32) × (m ≤ 32 * n) × (length g ≡ length g₀) × (take p g ≡ upTo p (startCell n))
 
 abbrev μ-loop : tie.MeasureT-loop
 μ-loop g₀ n m p₀ g p = m - p

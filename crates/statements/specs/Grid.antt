@@ -8,12 +8,13 @@ use Rattle.relation.specs.Meaning.{Event, holds}
 use Rattle.relation.specs.Sets.{member}
 use Rattle.relation.specs.Composition.{converse}
 use Rattle.grid.specs.Cells.{upTo, cell, putBoth}
-use Rattle.sheet.specs.Sheet.{Statement}
+use Rattle.statements.specs.Statements.{Statement}
 
 -- a pair starts as any, and an event to itself as {eq}: place p is that of cell (p / n, p % n)
 abbrev pub startCell : ℕ → ℕ → ℕ
 startCell n p = cond (eqb (p / n) (p % n)) 4096 8191
 
+-- the grid before any statement
 unfoldable pub startGrid : ℕ → List ℕ
 startGrid n = upTo (n * n) (startCell n)
 
@@ -25,10 +26,12 @@ leftBy n g t = bitAnd (cell n g (t .one) (t .two)) (t .set)
 unfoldable pub cutBy : ℕ → List ℕ → Statement → List ℕ
 cutBy n g t = putBoth converse n g (t .one) (t .two) (leftBy n g t)
 
+-- and each statement of a list cuts what those before it left
 unfoldable pub cutAll : ℕ → List ℕ → List Statement → List ℕ
 cutAll n g [] = g
 cutAll n g (t ∷ ts) = cutAll n (cutBy n g t) ts
 
+-- the grid of a list of statements
 unfoldable pub gridOf : ℕ → List Statement → List ℕ
 gridOf n sts = cutAll n (startGrid n) sts
 

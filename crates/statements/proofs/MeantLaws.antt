@@ -1,4 +1,4 @@
--- A placing meets the grid of a sheet's statements exactly if it meets each statement. Assumes nothing.
+-- A placing meets the grid of a list of statements exactly if it meets each statement. Assumes nothing.
 use mathlib.Core.Path.{sym, subst}
 use mathlib.Core.Logic.{_↔_}
 use mathlib.Core.List.{List, [], _∷_}
@@ -16,10 +16,9 @@ use Rattle.relation.proofs.ExchangeLaws.{converse-means}
 use Rattle.grid.specs.Cells.{cell}
 use Rattle.grid.specs.Accepted.{Accepted}
 use Rattle.grid.specs.Meets.{Meets}
-use Rattle.sheet.specs.Sheet.{Statement, mostEvents}
-use Rattle.sheet.specs.Grid.{startGrid, leftBy, cutBy, cutAll, gridOf, MeetsEach}
-use Rattle.sheet.proofs.FitLaws.{Fits, AllFit}
-use Rattle.sheet.proofs.GridLaws.{start-same, start-other, start-accepted, Side, here, mirror, other, side, cut-here, cut-mirror, cut-other, cut-accepted}
+use Rattle.statements.specs.Statements.{Statement, Fits, AllFit}
+use Rattle.statements.specs.Grid.{startGrid, leftBy, cutBy, cutAll, gridOf, MeetsEach}
+use Rattle.statements.proofs.GridLaws.{start-same, start-other, start-accepted, Side, here, mirror, other, side, cut-here, cut-mirror, cut-other, has, cut-accepted}
 
 turned : (a : ℕ) (X Y : Event) → T (member (relOf X Y) a) → T (member (relOf Y X) (converse a))
 turned a X Y w = subst T (sym (converse-means a X Y)) w
@@ -55,7 +54,7 @@ module _ (n : ℕ) (P : ℕ → Event) where
     module _ (k : Kept (cutBy n g t)) where
       both : T (member r (cell n g (t .one) (t .two))) × T (member r (t .set))
       both =
-          let w : T (member r (leftBy n g t)) = rw (cut-here n g a t f) at (k (t .one) (t .two) (f .one-in) (f .two-in)) in
+          let w : T (member r (leftBy n g t)) = rw (cut-here n g (has n g a t f) t f) at (k (t .one) (t .two) (f .one-in) (f .two-in)) in
           let v = subst T (member-and r (cell n g (t .one) (t .two)) (t .set)) w in
           (and-left (member r (cell n g (t .one) (t .two))) (member r (t .set)) v, and-right (member r (cell n g (t .one) (t .two))) (member r (t .set)) v)
 
@@ -66,7 +65,7 @@ module _ (n : ℕ) (P : ℕ → Event) where
           by (here p q) = rw (p, q) (both .0)
           by (mirror p q) =
               rw (p, q, a .mirrored (t .one) (t .two) (f .one-in) (f .two-in)) (turned (cell n g (t .one) (t .two)) (P (t .one)) (P (t .two)) (both .0))
-          by (other p q) = rw (cut-other n g a t f i j hj p q) at (k i j hi hj)
+          by (other p q) = rw (cut-other n g (has n g a t f) t f i j hj p q) at (k i j hi hj)
 
     cut-keeps : Kept g → T (member r (t .set)) → Kept (cutBy n g t)
     cut-keeps k w i j hi hj = by (side (t .one) (t .two) i j)
@@ -77,9 +76,9 @@ module _ (n : ℕ) (P : ℕ → Event) where
             (and-both (member r (cell n g (t .one) (t .two))) (member r (t .set)) (k (t .one) (t .two) (f .one-in) (f .two-in)) w)
 
         by : Side (t .one) (t .two) i j → T (member (relOf (P i) (P j)) (cell n (cutBy n g t) i j))
-        by (here p q) = rw (p, q, cut-here n g a t f) left
-        by (mirror p q) = rw (p, q, cut-mirror n g a t f) (turned (leftBy n g t) (P (t .one)) (P (t .two)) left)
-        by (other p q) = rw (cut-other n g a t f i j hj p q) (k i j hi hj)
+        by (here p q) = rw (p, q, cut-here n g (has n g a t f) t f) left
+        by (mirror p q) = rw (p, q, cut-mirror n g (has n g a t f) t f) (turned (leftBy n g t) (P (t .one)) (P (t .two)) left)
+        by (other p q) = rw (cut-other n g (has n g a t f) t f i j hj p q) (k i j hi hj)
 
   -- ---- and so do all cuts
 
@@ -97,7 +96,7 @@ module _ (n : ℕ) (P : ℕ → Event) where
       let w = cuts-kept (cutBy n g t) sts (cut-accepted n g a t (f .0)) (f .1) k in
       (cut-kept g a t (f .0) (w .0), (within-one (t .set) (P (t .one)) (P (t .two)) (both g a t (f .0) (w .0) .1), w .1))
 
-  pub meets-each : (sts : List Statement) → n ≤ mostEvents → AllFit n sts → Meets n (gridOf n sts) P ↔ MeetsEach P sts
+  pub meets-each : (sts : List Statement) → n ≤ 32 → AllFit n sts → Meets n (gridOf n sts) P ↔ MeetsEach P sts
   unfolding gridOf
   meets-each sts h f = (
     λ m. cuts-kept (startGrid n) sts (start-accepted n h) f (λ i j hi hj. one-within (cell n (gridOf n sts) i j) (P i) (P j) (m .each i j hi hj)) .1,

@@ -1,0 +1,4 @@
+pub mod StatementLaws
+pub mod GridLaws
+pub mod SameLaws
+pub mod MeantLaws
