@@ -13,7 +13,7 @@ use Rattle.report.proofs.put_found.Statement.{statement}
 use Rattle.report.proofs.put_found.Tie as tie
 
 abbrev S : tie.After-find-placing → tie.Start
-S F = F .before .before .before .before .before .before .before
+S F = F .before .before .before .before .before .before
 
 -- what the search found
 said : (F : tie.After-find-placing) (a : PlaceAnswer) → F .find-placing .result ≡ a
@@ -33,7 +33,7 @@ put-said-requires : tie.Need-put-said-requires
 put-said-requires c κs = search needs
 
 put-events-requires : tie.Need-put-events-requires
-put-events-requires c κs = let Z = c .before .before .before .before .before .before .before .before .before .before .before .before .before .before .before .before .before .before .before in (Z .pre .0, omega arith, omega arith)
+put-events-requires c κs = let Z = c .before .before .before .before .before .before .before .before .before .before .before .before .before .before .before .before .before .before in (Z .pre .0, omega arith, omega arith)
 
 enum-known-answer-2 : tie.Need-enum-known-answer-2
 enum-known-answer-2 c = search needs
@@ -71,7 +71,7 @@ returns c =
     let W = c .before .before .before .before .before .before .before .before in
     let A = W .before .before .before .before in
     let F = A .before .before .before in
-    let names = names-length (S F .args .s .now) (S F .args .places .now) (S F .args .lengths .now) (S F .args .n) in
+    let names = names-length (S F .args .s .now) (S F .args .places .now) (S F .args .n) in
     rw (placed-all _ _ (S F .args .events) _ _ _ _ (c .before .before .before .before .before .if1 .taken) names (room-is _ _ _ _ _ _ (S F .pre .1) (S F .pre .2) (F .find-placing .ensures)) (said F _ (A .answer .given .1)))
     (adds-then (W .put-said .ensures .adds) (c .before .before .put-events .ensures))
 
