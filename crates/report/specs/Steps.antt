@@ -48,10 +48,10 @@ abbrev pub saidLine : List ℕ → ℕ → List ℕ
 saidLine word tries = line (word ∷ decimal tries ∷ [])
 
 -- n events, whose names the table keeps
-pub record Named (s at len : List ℕ) (n : ℕ) : Type 0 where
+pub record Named (s places : List ℕ) (n : ℕ) : Type 0 where
   pub few : n ≤ mostEvents
-  pub keeps : Keeps s at len n
-  pub short : Short (namesAt s at len n)
+  pub keeps : Keeps s places n
+  pub short : Short (namesAt s places n)
 
 -- all lines, or the first alone
 abbrev pub foundText : Bool → List (List ℕ) → Found → List ℕ

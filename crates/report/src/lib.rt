@@ -114,17 +114,16 @@ fn put_events(
     at: usize,
     s: &[u8],
     places: &[usize],
-    lengths: &[usize],
     n: usize,
     numbers: &[i32],
 ) -> usize
-    requires { ⌜ Named (now s) (now places) (now lengths) n × (length (now numbers) ≡ 2 * n) × (at + mostEvent * n ≤ mostEnd) ⌝ }
-    ensures { λ r. ⌜ Adds (now (out .entry)) (now (out .exit)) at r (eventLines (namesAt (now (s .entry)) (now (places .entry)) (now (lengths .entry)) n) (now (numbers .entry)) n) ⌝ }
+    requires { ⌜ Named (now s) (now places) n × (length (now numbers) ≡ 2 * n) × (at + mostEvent * n ≤ mostEnd) ⌝ }
+    ensures { λ r. ⌜ Adds (now (out .entry)) (now (out .exit)) at r (eventLines (namesAt (now (s .entry)) (now (places .entry)) n) (now (numbers .entry)) n) ⌝ }
 {
     let mut end = at;
     let mut i = 0;
     while i < n {
-        let name = sheet::name_at(s, places, lengths, n, i);
+        let name = sheet::name_at(s, places, n, i);
         let first = placing::natural(numbers[2 * i]);
         let last = placing::natural(numbers[2 * i + 1]);
         end = put_event(out, end, name, first, last);
@@ -139,14 +138,13 @@ fn put_found(
     events: bool,
     s: &[u8],
     places: &[usize],
-    lengths: &[usize],
     n: usize,
     g: &[u16],
     allowance: u32,
     room: &mut [i32],
 ) -> usize
-    requires { ⌜ Named (now s) (now places) (now lengths) n × Accepted n (now g) × (length (now room) ≡ 2 * n) ⌝ }
-    ensures { λ r. ⌜ Adds (now (out .entry)) (now (out .exit)) 0 r (foundText events (namesAt (now (s .entry)) (now (places .entry)) (now (lengths .entry)) n) (searchOf n allowance (now (g .entry)))) ⌝ }
+    requires { ⌜ Named (now s) (now places) n × Accepted n (now g) × (length (now room) ≡ 2 * n) ⌝ }
+    ensures { λ r. ⌜ Adds (now (out .entry)) (now (out .exit)) 0 r (foundText events (namesAt (now (s .entry)) (now (places .entry)) n) (searchOf n allowance (now (g .entry)))) ⌝ }
 {
     let found = search::search_accepted(g, n, allowance, room);
     let tries = found.tries;
@@ -155,7 +153,7 @@ fn put_found(
         Outcome::Placed => {
             let end = put_said(out, b"placed", tries);
             if events {
-                put_events(out, end, s, places, lengths, n, room)
+                put_events(out, end, s, places, n, room)
             } else {
                 end
             }
@@ -171,14 +169,13 @@ fn put_searched(
     events: bool,
     s: &[u8],
     places: &[usize],
-    lengths: &[usize],
     n: usize,
     cells: &[u16],
     allowance: u32,
     room: &mut [i32],
 ) -> usize
-    requires { ⌜ Named (now s) (now places) (now lengths) n × (n * n ≤ length (now cells)) × Accepted n (take (n * n) (now cells)) × (2 * n ≤ length (now room)) ⌝ }
-    ensures { λ r. ⌜ Adds (now (out .entry)) (now (out .exit)) 0 r (foundText events (namesAt (now (s .entry)) (now (places .entry)) (now (lengths .entry)) n) (searchOf n allowance (take (n * n) (now (cells .entry))))) ⌝ }
+    requires { ⌜ Named (now s) (now places) n × (n * n ≤ length (now cells)) × Accepted n (take (n * n) (now cells)) × (2 * n ≤ length (now room)) ⌝ }
+    ensures { λ r. ⌜ Adds (now (out .entry)) (now (out .exit)) 0 r (foundText events (namesAt (now (s .entry)) (now (places .entry)) n) (searchOf n allowance (take (n * n) (now (cells .entry))))) ⌝ }
 {
     let count = n * n;
     let numbers = 2 * n;
@@ -187,7 +184,6 @@ fn put_searched(
         events,
         s,
         places,
-        lengths,
         n,
         &cells[..count],
         allowance,
@@ -206,20 +202,9 @@ fn put_report(out: &mut [u8], events: bool, s: &[u8], allowance: u32) -> usize
     match answer {
         SheetAnswer::Refused(why, line) => put_refusal(out, why, line),
         SheetAnswer::Events(n) => {
-            let places = table.at;
-            let lengths = table.len;
+            let places = table.places;
             let mut room = [0i32; NUMBERS];
-            put_searched(
-                out,
-                events,
-                s,
-                &places,
-                &lengths,
-                n,
-                &cells,
-                allowance,
-                &mut room,
-            )
+            put_searched(out, events, s, &places, n, &cells, allowance, &mut room)
         }
     }
 }

@@ -2,12 +2,12 @@
 use mathlib.Core.Path.{_≡_, refl, sym, _∙_, ap}
 use mathlib.Core.Bool.{Bool, true, false, cond}
 use mathlib.Core.List.{List, [], _∷_, _++_}
-use Prim.Native.Nat.{ℕ, zero, suc, _+_, _-_, _≤_, _<_}
+use Prim.Native.Nat.{ℕ, zero, suc, _+_, _*_, _-_, _≤_, _<_}
 use native.Mathlib.Omega.{arith}
 use native.Mathlib.Decide.{decLt}
 use native.Mathlib.Numerals.{add-one}
 use lib.Dec.{eqb}
-use lib.ListN.{length, take, drop, getD, set, length-append, drop-of-length-le, List·getD-append}
+use lib.ListN.{length, take, drop, getD, set, length-set, length-append, drop-of-length-le, List·getD-append}
 use lib.Seq.{drop-cons, take-take, getD-at, getD-set-same, getD-set-other}
 use borrow.Author.Tests.{le-leb, lt-leb}
 use Rattle.refusal.specs.Numbers.{numberOf}
@@ -18,7 +18,7 @@ use Rattle.text.specs.Steps.{PartEnd}
 use Rattle.text.proofs.PartLaws.{part-length}
 use Rattle.words.specs.Words.{Word}
 use Rattle.sheet.specs.Sheet.{refused, mostEvents, mostStatements, lf, fields, nameIn, countIn, isEntry, find, listed, entryFault, owners, next, lineFault, bodies, contents}
-use Rattle.sheet.specs.Steps.{partsFrom, Begins, EntryIs, EntryRead, nameAt, namesAt, Within, Keeps, Starts, TableOf}
+use Rattle.sheet.specs.Steps.{partsFrom, Begins, EntryIs, EntryRead, startAt, lengthAt, nameAt, namesAt, Within, Keeps, Starts, TableOf}
 use Rattle.sheet.specs.declared.Table.{Table}
 use Rattle.sheet.proofs.LineLaws.{line-is, line-there, line-ends, or-refused}
 
@@ -116,52 +116,71 @@ contents-cong known m p q r t = cc
 
 -- ---- the names that a table keeps
 
-module _ (s at len : List ℕ) where
-  pub names-length : (k : ℕ) → length (namesAt s at len k) ≡ k
+module _ (s places : List ℕ) where
+  pub names-length : (k : ℕ) → length (namesAt s places k) ≡ k
   unfolding namesAt
   names-length zero = refl
-  names-length (suc k) = omega (arith, length-append (namesAt s at len k) (nameAt s at len k ∷ []), names-length k)
+  names-length (suc k) = omega (arith, length-append (namesAt s places k) (nameAt s places k ∷ []), names-length k)
 
-  pub names-at : (k i : ℕ) → i < k → getD (namesAt s at len k) i [] ≡ nameAt s at len i
+  pub names-at : (k i : ℕ) → i < k → getD (namesAt s places k) i [] ≡ nameAt s places i
   unfolding namesAt
   names-at zero i h = absurd (omega arith)
   names-at (suc k) i h = by (names-length k) (names-at k i) (decLt i k)
     where
-      by : length (namesAt s at len k) ≡ k → (i < k → getD (namesAt s at len k) i [] ≡ nameAt s at len i) → Dec (i < k)
-          → getD (namesAt s at len k ++ nameAt s at len k ∷ []) i [] ≡ nameAt s at len i
-      by n f (yes g) = List·getD-append (namesAt s at len k) (nameAt s at len k ∷ []) [] i (omega arith) ∙ f g
+      by : length (namesAt s places k) ≡ k → (i < k → getD (namesAt s places k) i [] ≡ nameAt s places i) → Dec (i < k)
+          → getD (namesAt s places k ++ nameAt s places k ∷ []) i [] ≡ nameAt s places i
+      by n f (yes g) = List·getD-append (namesAt s places k) (nameAt s places k ∷ []) [] i (omega arith) ∙ f g
       by n f (no g) =
           let e : i ≡ k = omega arith in
-          rw e (getD-at (namesAt s at len k) (nameAt s at len k) [] [] k n)
+          rw e (getD-at (namesAt s places k) (nameAt s places k) [] [] k n)
 
 -- a table with one more entry
-module _ (s at len : List ℕ) (i a k : ℕ) (p : i < length at) (q : i < length len) where
-  names-kept : (j : ℕ) → j ≤ i → namesAt s (set at i a) (set len i k) j ≡ namesAt s at len j
+module _ (s places : List ℕ) (i a k : ℕ) (p : 2 * i + 1 < length places) where
+  abbrev more : List ℕ
+  more = set (set places (2 * i) a) (2 * i + 1) k
+
+  start-new : startAt more i ≡ a
+  start-new =
+      getD-set-other (set places (2 * i) a) (2 * i + 1) (2 * i) k 0 (λ e. omega arith) ∙ getD-set-same places (2 * i) a 0 (omega arith)
+
+  length-new : lengthAt more i ≡ k
+  length-new = getD-set-same (set places (2 * i) a) (2 * i + 1) k 0 (omega (arith, length-set places (2 * i) a))
+
+  -- the entries before it are as they were
+  module _ (j : ℕ) (h : j < i) where
+    start-old : startAt more j ≡ startAt places j
+    start-old =
+        getD-set-other (set places (2 * i) a) (2 * i + 1) (2 * j) k 0 (λ e. omega arith) ∙ getD-set-other places (2 * i) (2 * j) a 0 (λ e. omega arith)
+
+    length-old : lengthAt more j ≡ lengthAt places j
+    length-old =
+        getD-set-other (set places (2 * i) a) (2 * i + 1) (2 * j + 1) k 0 (λ e. omega arith)
+        ∙ getD-set-other places (2 * i) (2 * j + 1) a 0 (λ e. omega arith)
+
+  names-kept : (j : ℕ) → j ≤ i → namesAt s (set (set places (2 * i) a) (2 * i + 1) k) j ≡ namesAt s places j
   unfolding namesAt
   names-kept zero h = refl
-  names-kept (suc j) h =
-      rw (names-kept j (omega arith), getD-set-other at i j a 0 (λ e. omega arith), getD-set-other len i j k 0 (λ e. omega arith))
+  names-kept (suc j) h = rw (names-kept j (omega arith), start-old j (omega arith), length-old j (omega arith))
 
-  pub names-more : namesAt s (set at i a) (set len i k) (i + 1) ≡ namesAt s at len i ++ take k (drop a s) ∷ []
+  pub names-more : namesAt s (set (set places (2 * i) a) (2 * i + 1) k) (i + 1) ≡ namesAt s places i ++ take k (drop a s) ∷ []
   unfolding namesAt
-  names-more = rw (add-one, names-kept i (omega arith), getD-set-same at i a 0 p, getD-set-same len i k 0 q)
+  names-more = rw (add-one i, names-kept i (omega arith), start-new, length-new)
 
-  pub within-more : Within s at len i → a + k ≤ length s → Within s (set at i a) (set len i k) (i + 1)
+  pub within-more : Within s places i → a + k ≤ length s → Within s (set (set places (2 * i) a) (2 * i + 1) k) (i + 1)
   within-more w h j g = elim (decLt j i) [
-    | yes b ↦ rw (getD-set-other at i j a 0 (λ e. omega arith), getD-set-other len i j k 0 (λ e. omega arith)) (w j b)
-    | no b ↦ let e : j ≡ i = omega arith in rw (e, getD-set-same at i a 0 p, getD-set-same len i k 0 q) h
+    | yes b ↦ omega (arith, start-old j b, length-old j b, w j b)
+    | no b ↦ let e : j ≡ i = omega arith in rw e (omega (arith, start-new, length-new))
   ]
 
-  pub starts-more : Starts s at i → Begins s (i + 1) a → Starts s (set at i a) (i + 1)
+  pub starts-more : Starts s places i → Begins s (i + 1) a → Starts s (set (set places (2 * i) a) (2 * i + 1) k) (i + 1)
   starts-more w h j g = elim (decLt j i) [
-    | yes b ↦ rw (getD-set-other at i j a 0 (λ e. omega arith)) (w j b)
-    | no b ↦ let e : j ≡ i = omega arith in rw (e, getD-set-same at i a 0 p) (sym (h .bytes))
+    | yes b ↦ start-old j b ∙ w j b
+    | no b ↦ let e : j ≡ i = omega arith in rw e (start-new ∙ sym (h .bytes))
   ]
 
--- the table of n events is one of n places and lengths
-pub table-keeps : (s : List ℕ) (n : ℕ) (t : Table) → n ≤ mostEvents → TableOf s n t → Keeps s (t .at) (t .len) n
-table-keeps s n t few w =
-    record { places = omega (arith, w .at-long); lengths = omega (arith, w .len-long); within = w .within }
+-- the table of n events has the places of n names
+pub table-keeps : (s : List ℕ) (n : ℕ) (t : Table) → n ≤ mostEvents → TableOf s n t → Keeps s (t .places) n
+table-keeps s n t few w = record { room = omega (arith, w .places-long); within = w .within }
 
 -- ---- looking a name up
 

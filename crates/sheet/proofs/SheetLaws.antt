@@ -72,7 +72,7 @@ sheet-says known s g g′ n a t b few c f (Refused r line) y = c .says ∙ y
 sheet-says known s g g′ n a t b few c f (Events m) y = subst (SheetRead (contents known n [] [] (partsFrom s a) 2) s g′ t) (sym (y .events)) read
   where
     many : length (tableNames s n t) ≡ n
-    many = names-length s (t .at) (t .len) n
+    many = names-length s (t .places) n
 
     read : SheetRead (contents known n [] [] (partsFrom s a) 2) s g′ t n
     read =

@@ -42,7 +42,7 @@ read-accepted s before n after r = by (eqb (length before) roomCells) (sheet s) 
 -- so is the one that the inner function leaves in the front of its room
 pub into-accepted : (s g : List ℕ) (t : Table) (n : ℕ) → SheetRead (sheet s) s g t n → Accepted n (take (n * n) g)
 into-accepted s g t n y =
-    let m = names-length s (t .at) (t .len) n in
+    let m = names-length s (t .places) n in
     let f = sheet-fits (tableNames s n t) (tableCounts n t) (y .statements) s (y .says) in
     rw (y .grid) (grid-accepted n (y .statements) (y .few) (rw m at (f .1)))
 

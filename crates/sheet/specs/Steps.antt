@@ -73,23 +73,30 @@ abbrev pub EntrySays : List (List ℕ) → List ℕ → ℕ → EntryLine → Ty
 EntrySays ns s a (Lists k v b) = EntryRead ns s a k v b
 EntrySays ns s a (Entry·Stop r) = lineFault (entryFault ns) (partsFrom s a) ≡ numberOf r
 
--- the first k names that a table keeps, as places and lengths in the sheet
-abbrev pub nameAt : List ℕ → List ℕ → List ℕ → ℕ → List ℕ
-nameAt s at len i = take (getD len i 0) (drop (getD at i 0) s)
+-- The places of the names are two numbers for each event: where its name begins in the sheet, and how long it is.
+abbrev pub startAt : List ℕ → ℕ → ℕ
+startAt places i = getD places (2 * i) 0
 
-unfoldable pub namesAt : List ℕ → List ℕ → List ℕ → ℕ → List (List ℕ)
-namesAt s at len zero = []
-namesAt s at len (suc k) = namesAt s at len k ++ nameAt s at len k ∷ []
+abbrev pub lengthAt : List ℕ → ℕ → ℕ
+lengthAt places i = getD places (2 * i + 1) 0
+
+-- the name of event i
+abbrev pub nameAt : List ℕ → List ℕ → ℕ → List ℕ
+nameAt s places i = take (lengthAt places i) (drop (startAt places i) s)
+
+-- the first k names
+unfoldable pub namesAt : List ℕ → List ℕ → ℕ → List (List ℕ)
+namesAt s places zero = []
+namesAt s places (suc k) = namesAt s places k ++ nameAt s places k ∷ []
 
 -- each of them lies in the sheet
-abbrev pub Within : List ℕ → List ℕ → List ℕ → ℕ → Type 0
-Within s at len k = (i : ℕ) → i < k → getD at i 0 + getD len i 0 ≤ length s
+abbrev pub Within : List ℕ → List ℕ → ℕ → Type 0
+Within s places k = (i : ℕ) → i < k → startAt places i + lengthAt places i ≤ length s
 
--- places and lengths of n names
-pub record Keeps (s at len : List ℕ) (n : ℕ) : Type 0 where
-  pub places : n ≤ length at
-  pub lengths : n ≤ length len
-  pub within : Within s at len n
+-- the places of n names
+pub record Keeps (s places : List ℕ) (n : ℕ) : Type 0 where
+  pub room : 2 * n ≤ length places
+  pub within : Within s places n
 
 -- names of at most 16 bytes
 abbrev pub Short : List (List ℕ) → Type 0
@@ -97,18 +104,17 @@ Short ns = (i : ℕ) → i < length ns → length (getD ns i []) ≤ longestName
 
 -- each stands at the beginning of its line
 abbrev pub Starts : List ℕ → List ℕ → ℕ → Type 0
-Starts s at k = (i : ℕ) → i < k → getD at i 0 ≡ nameStart s i
+Starts s places k = (i : ℕ) → i < k → startAt places i ≡ nameStart s i
 
 -- a table of n names
 pub record TableOf (s : List ℕ) (n : ℕ) (t : Table) : Type 0 where
-  pub at-long : length (t .at) ≡ mostEvents
-  pub len-long : length (t .len) ≡ mostEvents
+  pub places-long : length (t .places) ≡ 2 * mostEvents
   pub count-long : length (t .count) ≡ mostEvents
-  pub within : Within s (t .at) (t .len) n
-  pub starts : Starts s (t .at) n
+  pub within : Within s (t .places) n
+  pub starts : Starts s (t .places) n
 
 abbrev pub tableNames : List ℕ → ℕ → Table → List (List ℕ)
-tableNames s n t = namesAt s (t .at) (t .len) n
+tableNames s n t = namesAt s (t .places) n
 
 abbrev pub tableCounts : ℕ → Table → List ℕ
 tableCounts n t = take n (t .count)
@@ -192,7 +198,7 @@ SheetSays o s g t (Refused r line) = o ≡ refused (numberOf r) line
 -- ---- a name handed back
 
 -- the name of event i of n, as the table keeps it, or the empty part at the sheet's beginning
-pub record PartAt (s : RefT (List ℕ)) (at len : List ℕ) (n i : ℕ) (part : RefT (List ℕ)) : Type 0 where
-  pub bytes : part .now ≡ getD (namesAt (s .now) at len n) i []
+pub record PartAt (s : RefT (List ℕ)) (places : List ℕ) (n i : ℕ) (part : RefT (List ℕ)) : Type 0 where
+  pub bytes : part .now ≡ getD (namesAt (s .now) places n) i []
   pub memory : part .ptr .0 ≡ s .ptr .0
-  pub start : part .ptr .1 ≡ cond (ltb i n) (getD at i 0) 0 + s .ptr .1
+  pub start : part .ptr .1 ≡ cond (ltb i n) (startAt places i) 0 + s .ptr .1

@@ -49,14 +49,14 @@ fn entry_form(l: &[u8]) -> EntryForm
 }
 
 // The number of the event of that name among the first n of the table, or n.
-fn find_name(s: &[u8], at: &[usize], len: &[usize], n: usize, m: &[u8]) -> usize
-    requires { ⌜ Keeps (now s) (now at) (now len) n ⌝ }
-    ensures { λ r. ⌜ r ≡ find (namesAt (now (s .entry)) (now (at .entry)) (now (len .entry)) n) (now (m .entry)) ⌝ }
+fn find_name(s: &[u8], places: &[usize], n: usize, m: &[u8]) -> usize
+    requires { ⌜ Keeps (now s) (now places) n ⌝ }
+    ensures { λ r. ⌜ r ≡ find (namesAt (now (s .entry)) (now (places .entry)) n) (now (m .entry)) ⌝ }
 {
     let mut i = 0;
     while i < n {
-        let a = at[i];
-        let e = a + len[i];
+        let a = places[2 * i];
+        let e = a + places[2 * i + 1];
         if text::same_name(&s[a..e], m) {
             return i;
         }
@@ -72,9 +72,9 @@ enum EntryLine {
 }
 
 // The line that begins at a, after the first i names.
-fn entry_line(s: &[u8], at: &[usize], len: &[usize], i: usize, a: usize) -> EntryLine
-    requires { ⌜ Keeps (now s) (now at) (now len) i × (a ≤ length (now s)) ⌝ }
-    ensures { λ r. ⌜ EntrySays (namesAt (now (s .entry)) (now (at .entry)) (now (len .entry)) i) (now (s .entry)) a r ⌝ }
+fn entry_line(s: &[u8], places: &[usize], i: usize, a: usize) -> EntryLine
+    requires { ⌜ Keeps (now s) (now places) i × (a ≤ length (now s)) ⌝ }
+    ensures { λ r. ⌜ EntrySays (namesAt (now (s .entry)) (now (places .entry)) i) (now (s .entry)) a r ⌝ }
 {
     let e = text::part_end(s, a, LF);
     if e == s.len() {
@@ -84,7 +84,7 @@ fn entry_line(s: &[u8], at: &[usize], len: &[usize], i: usize, a: usize) -> Entr
         EntryForm::Bad => EntryLine::Stop(Refusal::LineForm),
         EntryForm::Is(k, v) => {
             let b = a + k;
-            if find_name(s, at, len, i, &s[a..b]) < i {
+            if find_name(s, places, i, &s[a..b]) < i {
                 EntryLine::Stop(Refusal::NameTwice)
             } else {
                 EntryLine::Lists(k, v, e + 1)
@@ -93,10 +93,9 @@ fn entry_line(s: &[u8], at: &[usize], len: &[usize], i: usize, a: usize) -> Entr
     }
 }
 
-// The table of contents: where each event's name stands in the sheet, its length, and its number of statements.
+// The table of contents: of each event where its name begins in the sheet and how long it is, one after the other; and its number of statements.
 pub struct Table {
-    pub at: [usize; EVENTS],
-    pub len: [usize; EVENTS],
+    pub places: [usize; 2 * EVENTS],
     pub count: [usize; EVENTS],
 }
 
@@ -117,22 +116,21 @@ fn contents_of(s: &[u8], n: usize, start: usize) -> Contents
     requires { ⌜ (n ≤ mostEvents) × Begins (now s) 1 start ⌝ }
     ensures { λ r. ⌜ ContentsSay words (now (s .entry)) n start (r .table) (r .place) ⌝ }
 {
-    let mut at = [0usize; EVENTS];
-    let mut len = [0usize; EVENTS];
+    let mut places = [0usize; 2 * EVENTS];
     let mut count = [0usize; EVENTS];
     let mut a = start;
     let mut i = 0;
     while i < n {
-        match entry_line(s, &at, &len, i, a) {
+        match entry_line(s, &places, i, a) {
             EntryLine::Stop(r) => {
                 return Contents {
-                    table: Table { at, len, count },
+                    table: Table { places, count },
                     place: Place::Refused(r, i + 2),
                 };
             }
             EntryLine::Lists(k, v, next) => {
-                at[i] = a;
-                len[i] = k;
+                places[2 * i] = a;
+                places[2 * i + 1] = k;
                 count[i] = v;
                 a = next;
             }
@@ -140,7 +138,7 @@ fn contents_of(s: &[u8], n: usize, start: usize) -> Contents
         i += 1;
     }
     Contents {
-        table: Table { at, len, count },
+        table: Table { places, count },
         place: Place::At(a, n + 2),
     }
 }
@@ -177,16 +175,9 @@ enum StatementLine {
 }
 
 // The line that begins at a, in the body of event i.
-fn statement_line(
-    s: &[u8],
-    at: &[usize],
-    len: &[usize],
-    n: usize,
-    i: usize,
-    a: usize,
-) -> StatementLine
-    requires { ⌜ Keeps (now s) (now at) (now len) n × (a ≤ length (now s)) ⌝ }
-    ensures { λ r. ⌜ StatementSays words (namesAt (now (s .entry)) (now (at .entry)) (now (len .entry)) n) i (now (s .entry)) a r ⌝ }
+fn statement_line(s: &[u8], places: &[usize], n: usize, i: usize, a: usize) -> StatementLine
+    requires { ⌜ Keeps (now s) (now places) n × (a ≤ length (now s)) ⌝ }
+    ensures { λ r. ⌜ StatementSays words (namesAt (now (s .entry)) (now (places .entry)) n) i (now (s .entry)) a r ⌝ }
 {
     let e = text::part_end(s, a, LF);
     if e == s.len() {
@@ -196,7 +187,7 @@ fn statement_line(
         StatementForm::Bad => StatementLine::Stop(Refusal::LineForm),
         StatementForm::Is(k, u) => {
             let b = a + k + 1;
-            let j = find_name(s, at, len, n, &s[b..e]);
+            let j = find_name(s, places, n, &s[b..e]);
             if j == n {
                 StatementLine::Stop(Refusal::NoSuchEvent)
             } else if j == i {
@@ -211,8 +202,7 @@ fn statement_line(
 // The body of event i: so many lines, of which the first is line first and begins at start.
 fn body_of(
     s: &[u8],
-    at: &[usize],
-    len: &[usize],
+    places: &[usize],
     n: usize,
     i: usize,
     lines: usize,
@@ -220,14 +210,14 @@ fn body_of(
     first: usize,
     g: &mut [u16],
 ) -> Place
-    requires { ⌜ Keeps (now s) (now at) (now len) n ⌝ }
+    requires { ⌜ Keeps (now s) (now places) n ⌝ }
     requires { ⌜ (i < n) × (n ≤ mostEvents) × (n * n ≤ length (now g)) × (start ≤ length (now s)) × (first ≤ start + (mostEvents + 2)) ⌝ }
-    ensures { λ r. ⌜ BodySays words (now (s .entry)) (namesAt (now (s .entry)) (now (at .entry)) (now (len .entry)) n) n i lines start first (now (g .entry)) (now (g .exit)) r ⌝ }
+    ensures { λ r. ⌜ BodySays words (now (s .entry)) (namesAt (now (s .entry)) (now (places .entry)) n) n i lines start first (now (g .entry)) (now (g .exit)) r ⌝ }
 {
     let mut a = start;
     let mut k = 0;
     while k < lines {
-        match statement_line(s, at, len, n, i, a) {
+        match statement_line(s, places, n, i, a) {
             StatementLine::Stop(r) => {
                 return Place::Refused(r, first + k);
             }
@@ -250,22 +240,21 @@ pub enum SheetAnswer {
 // The bodies of all n events, from start on, after which nothing may stand.
 fn bodies_of(
     s: &[u8],
-    at: &[usize],
-    len: &[usize],
+    places: &[usize],
     count: &[usize],
     n: usize,
     start: usize,
     g: &mut [u16],
 ) -> SheetAnswer
-    requires { ⌜ Keeps (now s) (now at) (now len) n ⌝ }
+    requires { ⌜ Keeps (now s) (now places) n ⌝ }
     requires { ⌜ (n ≤ length (now count)) × (n ≤ mostEvents) × (n * n ≤ length (now g)) × (start ≤ length (now s)) ⌝ }
-    ensures { λ r. ⌜ BodiesSay words (now (s .entry)) (namesAt (now (s .entry)) (now (at .entry)) (now (len .entry)) n) (take n (now (count .entry))) n start (now (g .entry)) (now (g .exit)) r ⌝ }
+    ensures { λ r. ⌜ BodiesSay words (now (s .entry)) (namesAt (now (s .entry)) (now (places .entry)) n) (take n (now (count .entry))) n start (now (g .entry)) (now (g .exit)) r ⌝ }
 {
     let mut a = start;
     let mut line = n + 2;
     let mut i = 0;
     while i < n {
-        match body_of(s, at, len, n, i, count[i], a, line, g) {
+        match body_of(s, places, n, i, count[i], a, line, g) {
             Place::Refused(r, l) => {
                 return SheetAnswer::Refused(r, l);
             }
@@ -303,11 +292,10 @@ fn lines_into(s: &[u8], n: usize, start: usize, g: &mut [u16]) -> Reading
             answer: SheetAnswer::Refused(r, l),
         },
         Place::At(next, _) => {
-            let at = table.at;
-            let len = table.len;
+            let places = table.places;
             let count = table.count;
             statements::fill_start(g, n);
-            let answer = bodies_of(s, &at, &len, &count, n, next, g);
+            let answer = bodies_of(s, &places, &count, n, next, g);
             Reading { table, answer }
         }
     }
@@ -317,12 +305,10 @@ fn lines_into(s: &[u8], n: usize, start: usize, g: &mut [u16]) -> Reading
 fn refused(r: Refusal, line: usize) -> Reading
     ensures { λ x. ⌜ x .answer ≡ SheetAnswer.Refused r line ⌝ }
 {
-    let none = [0usize; EVENTS];
     Reading {
         table: Table {
-            at: none,
-            len: none,
-            count: none,
+            places: [0usize; 2 * EVENTS],
+            count: [0usize; EVENTS],
         },
         answer: SheetAnswer::Refused(r, line),
     }
@@ -367,13 +353,13 @@ pub fn read_sheet(s: &[u8], room: &mut [u16]) -> SheetAnswer
 }
 
 // The name of event i of n, by the table of contents; the empty part at the sheet's beginning where there is no event i.
-pub fn name_at<'a>(s: &'a [u8], at: &[usize], len: &[usize], n: usize, i: usize) -> &'a [u8]
-    requires { ⌜ Keeps (now s) (now at) (now len) n ⌝ }
-    ensures { λ r. ⌜ PartAt (s .entry) (now (at .entry)) (now (len .entry)) n i r ⌝ }
+pub fn name_at<'a>(s: &'a [u8], places: &[usize], n: usize, i: usize) -> &'a [u8]
+    requires { ⌜ Keeps (now s) (now places) n ⌝ }
+    ensures { λ r. ⌜ PartAt (s .entry) (now (places .entry)) n i r ⌝ }
 {
     if i < n {
-        let a = at[i];
-        let e = a + len[i];
+        let a = places[2 * i];
+        let e = a + places[2 * i + 1];
         &s[a..e]
     } else {
         &s[..0]
@@ -391,9 +377,8 @@ pub fn name_of<'a>(s: &'a [u8], i: usize) -> &'a [u8]
     match answer {
         SheetAnswer::Refused(_, _) => &s[..0],
         SheetAnswer::Events(n) => {
-            let at = table.at;
-            let len = table.len;
-            name_at(s, &at, &len, n, i)
+            let places = table.places;
+            name_at(s, &places, n, i)
         }
     }
 }

@@ -118,8 +118,8 @@ fn name_start(bytes: &[u8], i: usize) -> usize {
     match answer {
         SheetAnswer::Refused(_, _) => 0,
         SheetAnswer::Events(n) => {
-            let at = table.at;
-            if i < n { at[i] } else { 0 }
+            let places = table.places;
+            if i < n { places[2 * i] } else { 0 }
         }
     }
 }

@@ -14,16 +14,16 @@ use Rattle.report.proofs.put_events.Statement.{statement}
 use Rattle.report.proofs.put_events.Tie as tie
 
 abbrev Inv-loop : tie.InvT-loop
-Inv-loop out₀ at s places lengths n numbers end₀ i₀ out end i = (i ≤ n) × (end + mostEvent * (n - i) ≤ mostEnd) × (length out ≡ length out₀) × Adds out₀ out at end (eventLines (namesAt s places lengths n) numbers i)
+Inv-loop out₀ at s places n numbers end₀ i₀ out end i = (i ≤ n) × (end + mostEvent * (n - i) ≤ mostEnd) × (length out ≡ length out₀) × Adds out₀ out at end (eventLines (namesAt s places n) numbers i)
 
 abbrev μ-loop : tie.MeasureT-loop
-μ-loop out₀ at s places lengths n numbers end₀ i₀ out end i = n - i
+μ-loop out₀ at s places n numbers end₀ i₀ out end i = n - i
 
 loop-holds : tie.Need-loop-holds Inv-loop μ-loop
-loop-holds c = let Z = c .before .before .before .before in (omega arith, omega (arith, Z .pre .2), refl, adds-no-line (Z .args .out .now) (Z .args .at) (namesAt (Z .args .s .now) (Z .args .places .now) (Z .args .lengths .now) (Z .args .n)) (Z .args .numbers .now))
+loop-holds c = let Z = c .before .before .before in (omega arith, omega (arith, Z .pre .2), refl, adds-no-line (Z .args .out .now) (Z .args .at) (namesAt (Z .args .s .now) (Z .args .places .now) (Z .args .n)) (Z .args .numbers .now))
 
 name-at-requires : tie.Need-name-at-requires Inv-loop μ-loop
-name-at-requires c κs = c .before .before .before .before .before .before .pre .0 .keeps
+name-at-requires c κs = c .before .before .before .before .before .pre .0 .keeps
 
 mul-natural : tie.Need-mul-natural Inv-loop μ-loop
 mul-natural c = search needs
@@ -56,8 +56,8 @@ put-event-requires : tie.Need-put-event-requires Inv-loop μ-loop
 put-event-requires c κs =
     let M = c .before .before .before .before .before in
     let L = M .before .before in
-    let Z = L .before .before .before .before .before in
-    let names = names-length (Z .args .s .now) (Z .args .places .now) (Z .args .lengths .now) (Z .args .n) in
+    let Z = L .before .before .before .before in
+    let names = names-length (Z .args .s .now) (Z .args .places .now) (Z .args .n) in
     (omega (arith, ap length (M .name-at .ensures .bytes), Z .pre .0 .short (L .loop .i) (rw names (M .before .loop-test .taken))), omega arith)
 
 add-i : tie.Need-add-i Inv-loop μ-loop
@@ -74,14 +74,14 @@ loop-again c =
     let A₁ = E₁ .before in
     let M = A₁ .before in
     let L = M .before .before in
-    let Z = L .before .before .before .before .before in
+    let Z = L .before .before .before .before in
     let E = c .before .before .put-event .ensures in
     let xs = Z .args .numbers .now in
     let i = L .loop .i in (
       omega arith,
       omega (arith, E .within),
       c .before .before .put-event .kept .0 ∙ L .loop .inv .2,
-      adds-line (namesAt (Z .args .s .now) (Z .args .places .now) (Z .args .lengths .now) (Z .args .n)) xs i _ _ _
+      adds-line (namesAt (Z .args .s .now) (Z .args .places .now) (Z .args .n)) xs i _ _ _
           (M .name-at .ensures .bytes)
           (natural-is (at xs (2 * i)) (A₁ .natural-arg .given) _ (E₁ .natural .ensures))
           (natural-is (at xs (2 * i + 1)) (A₂ .natural-arg2 .given) _ (E₂ .natural2 .ensures))
@@ -94,7 +94,7 @@ same-length c = search needs
 returns : tie.Need-returns Inv-loop μ-loop
 returns c =
     let L = c .before in
-    let Z = c .before .before .before .before .before .before in
+    let Z = c .before .before .before .before .before in
     let e : L .loop .i ≡ Z .args .n = omega arith in
     rw e at (L .loop .inv .3)
 

@@ -16,7 +16,7 @@ use Rattle.report.proofs.put_found.Statement.{statement}
 use Rattle.report.proofs.put_found.Tie as tie
 
 abbrev S : tie.After-search-accepted → tie.Start
-S F = F .before .before .before .before .before .before .before
+S F = F .before .before .before .before .before .before
 
 -- what the search came to
 said : (F : tie.After-search-accepted) (o : Outcome) → F .search-accepted .result .outcome ≡ o
@@ -26,7 +26,7 @@ said F o e =
     ∙ answer-is _ _ _ _ (S F .pre .1) (S F .pre .2) _ _ (F .search-accepted .ensures)
 
 search-accepted-requires : tie.Need-search-accepted-requires
-search-accepted-requires c κs = let s = c .before .before .before .before .before .before .pre in (s .1, s .2)
+search-accepted-requires c κs = let s = c .before .before .before .before .before .pre in (s .1, s .2)
 
 enum-told : tie.Need-enum-told
 enum-told c = search needs
@@ -38,7 +38,7 @@ put-said-requires : tie.Need-put-said-requires
 put-said-requires c κs = search needs
 
 put-events-requires : tie.Need-put-events-requires
-put-events-requires c κs = let Z = c .before .before .before .before .before .before .before .before .before .before .before .before .before .before .before .before .before .before in (Z .pre .0, omega arith, omega arith)
+put-events-requires c κs = let Z = c .before .before .before .before .before .before .before .before .before .before .before .before .before .before .before .before .before in (Z .pre .0, omega arith, omega arith)
 
 enum-told-2 : tie.Need-enum-told-2
 enum-told-2 c = search needs
@@ -70,7 +70,7 @@ returns c =
     let W = c .before .before .before .before .before .before .before .before in
     let A = W .before .before .before in
     let F = A .before .before .before in
-    let names = names-length (S F .args .s .now) (S F .args .places .now) (S F .args .lengths .now) (S F .args .n) in
+    let names = names-length (S F .args .s .now) (S F .args .places .now) (S F .args .n) in
     rw (placed-all _ _ (S F .args .events) _ _ _ _ (c .before .before .before .before .before .if1 .taken) names (room-is _ _ _ _ (S F .pre .1) (S F .pre .2) _ _ (F .search-accepted .ensures)) (said F _ (A .enum-told .given .1)))
     (adds-then (W .put-said .ensures .adds) (c .before .before .put-events .ensures))
 

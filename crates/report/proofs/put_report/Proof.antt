@@ -51,12 +51,9 @@ slice-aggregate-put-searched-2 c = search needs
 slice-aggregate-put-searched-3 : tie.Need-slice-aggregate-put-searched-3
 slice-aggregate-put-searched-3 c = search needs
 
-slice-aggregate-put-searched-4 : tie.Need-slice-aggregate-put-searched-4
-slice-aggregate-put-searched-4 c = search needs
-
 put-searched-requires : tie.Need-put-searched-requires
 put-searched-requires c κs =
-    let A = c .before .before .before .before .before .before .before .before in
+    let A = c .before .before .before .before .before .before in
     let few = read A .few in
     let w = mul-le-mul few few in (
       record {
@@ -83,10 +80,10 @@ same-length-2 c = search needs
 
 returns-2 : tie.Need-returns-2
 returns-2 c =
-    let A = c .before .before .before .before .before .before .before .before .before .before .before .before in
+    let A = c .before .before .before .before .before .before .before .before .before .before in
     let n = A .answer2 .given .0 .0 in
     let t = F A .read-into .result .table in
-    rw (text-accepted (S (F A) .args .events) (S (F A) .args .allowance) n _ _ _ _ _ (read A .says) (names-length (S (F A) .args .s .now) (t .at) (t .len) n) (read A .grid))
+    rw (text-accepted (S (F A) .args .events) (S (F A) .args .allowance) n _ _ _ _ _ (read A .says) (names-length (S (F A) .args .s .now) (t .places) n) (read A .grid))
     (c .before .before .before .put-searched .ensures)
 
 pub put-report-spec : {M : Type 1} → statement M
@@ -101,7 +98,6 @@ put-report-spec =
     slice-aggregate-put-searched
     slice-aggregate-put-searched-2
     slice-aggregate-put-searched-3
-    slice-aggregate-put-searched-4
     put-searched-requires
     same-length
     returns

@@ -18,10 +18,10 @@ slice-relend-prefix-put-found : tie.Need-slice-relend-prefix-put-found
 slice-relend-prefix-put-found c = search needs
 
 slice-aggregate-put-found-2 : tie.Need-slice-aggregate-put-found-2
-slice-aggregate-put-found-2 c = sym (length-take-le _ _ (c .before .before .before .before .before .before .before .before .pre .3))
+slice-aggregate-put-found-2 c = sym (length-take-le _ _ (c .before .before .before .before .before .before .before .pre .3))
 
 put-found-requires : tie.Need-put-found-requires
-put-found-requires c κs = let P = c .before .before .before .before .before .before .before .before .pre in (P .0, P .2, length-take-le _ _ (P .3))
+put-found-requires c κs = let P = c .before .before .before .before .before .before .before .pre in (P .0, P .2, length-take-le _ _ (P .3))
 
 same-length : tie.Need-same-length
 same-length c = search needs

@@ -29,19 +29,19 @@ record SoFar (s : List ℕ) (ns : List (List ℕ)) (cs : List ℕ) (n start : �
   says : bodies words ns cs (owners 0 cs) [] (partsFrom s start) (n + 2) ≡ bodies words ns cs (owners i (drop i cs)) new (partsFrom s a) line
 
 abbrev Inv-loop : tie.InvT-loop
-Inv-loop s at len count n start g₀ a₀ line₀ i₀ g a line i = SoFar s (namesAt s at len n) (take n count) n start g₀ g a line i
+Inv-loop s places count n start g₀ a₀ line₀ i₀ g a line i = SoFar s (namesAt s places n) (take n count) n start g₀ g a line i
 
 abbrev μ-loop : tie.MeasureT-loop
-μ-loop s at len count n start g₀ a₀ line₀ i₀ g a line i = n - i
+μ-loop s places count n start g₀ a₀ line₀ i₀ g a line i = n - i
 
 abbrev L : tie.After-body-of Inv-loop μ-loop → tie.At-loop Inv-loop μ-loop
 L F = F .before .before .before .before
 
 abbrev S : tie.At-loop Inv-loop μ-loop → tie.Start Inv-loop μ-loop
-S A = A .before .before .before .before .before .before
+S A = A .before .before .before .before .before
 
 abbrev Names : tie.At-loop Inv-loop μ-loop → List (List ℕ)
-Names A = namesAt (S A .args .s .now) (S A .args .at .now) (S A .args .len .now) (S A .args .n)
+Names A = namesAt (S A .args .s .now) (S A .args .places .now) (S A .args .n)
 
 abbrev Counts : tie.At-loop Inv-loop μ-loop → List ℕ
 Counts A = take (S A .args .n) (S A .args .count .now)
@@ -68,22 +68,22 @@ here F =
 
 -- the grid that the body leaves, and what it says
 abbrev G : tie.After-body-of Inv-loop μ-loop → List ℕ
-G F = F .body-of .last .1 .1 .1 .1 .1 .1 .1 .1 .0
+G F = F .body-of .last .1 .1 .1 .1 .1 .1 .1 .0
 
 says : (F : tie.After-body-of Inv-loop μ-loop) (x : Place) → F .body-of .result ≡ x → let A = L F in
     BodySays words (S A .args .s .now) (Names A) (S A .args .n) (A .loop .i) (getD (S A .args .count .now) (A .loop .i) 0) (A .loop .a) (A .loop .line) (A .loop .g) (G F) x
 says F x e = let A = L F in subst (BodySays words (S A .args .s .now) (Names A) (S A .args .n) (A .loop .i) (getD (S A .args .count .now) (A .loop .i) 0) (A .loop .a) (A .loop .line) (A .loop .g) (G F)) e (F .body-of .ensures)
 
 kept : (F : tie.After-body-of Inv-loop μ-loop) → length (G F) ≡ length (S (L F) .args .g .now)
-kept F = F .body-of .kept .1 .1 .1 .1 .1 .1 .1 .1 .0 ∙ L F .loop .inv .long
+kept F = F .body-of .kept .1 .1 .1 .1 .1 .1 .1 .0 ∙ L F .loop .inv .long
 
 add-line : tie.Need-add-line Inv-loop μ-loop
-add-line c = omega (arith, c .before .before .before .before .before .pre)
+add-line c = omega (arith, c .before .before .before .before .pre)
 
 loop-holds : tie.Need-loop-holds Inv-loop μ-loop
 unfolding cutAll
 loop-holds c =
-    let Z = c .before .before .before .before .before in
+    let Z = c .before .before .before .before in
     record {
       few = omega arith;
       inside = Z .pre .1 .3;

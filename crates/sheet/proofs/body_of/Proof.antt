@@ -32,19 +32,19 @@ record SoFar (s : List ℕ) (ns : List (List ℕ)) (n i lines start first : ℕ)
       → bodies words ns cs (replicate lines i ++ os) sts (partsFrom s start) first ≡ bodies words ns cs (replicate (lines - k) i ++ os) (sts ++ new) (partsFrom s a) (first + k)
 
 abbrev Inv-loop : tie.InvT-loop
-Inv-loop s at len n i lines start first g₀ a₀ k₀ g a k = SoFar s (namesAt s at len n) n i lines start first g₀ g a k
+Inv-loop s places n i lines start first g₀ a₀ k₀ g a k = SoFar s (namesAt s places n) n i lines start first g₀ g a k
 
 abbrev μ-loop : tie.MeasureT-loop
-μ-loop s at len n i lines start first g₀ a₀ k₀ g a k = lines - k
+μ-loop s places n i lines start first g₀ a₀ k₀ g a k = lines - k
 
 abbrev L : tie.After-statement-line Inv-loop μ-loop → tie.At-loop Inv-loop μ-loop
 L E = E .before .before
 
 abbrev S : tie.At-loop Inv-loop μ-loop → tie.Start Inv-loop μ-loop
-S A = A .before .before .before .before .before
+S A = A .before .before .before .before
 
 abbrev Names : tie.At-loop Inv-loop μ-loop → List (List ℕ)
-Names A = namesAt (S A .args .s .now) (S A .args .at .now) (S A .args .len .now) (S A .args .n)
+Names A = namesAt (S A .args .s .now) (S A .args .places .now) (S A .args .n)
 
 -- the lines of this event after this one, and those of the events after it
 abbrev Rest : tie.At-loop Inv-loop μ-loop → List ℕ → List ℕ
@@ -73,12 +73,12 @@ said : (U : tie.After-u Inv-loop μ-loop)
 said U = says (E U) (Says (U .u .given .0 .0) (U .u .given .0 .1 .0) (U .u .given .0 .1 .1 .0)) (U .u .given .1)
 
 many : (A : tie.At-loop Inv-loop μ-loop) → length (Names A) ≡ S A .args .n
-many A = names-length (S A .args .s .now) (S A .args .at .now) (S A .args .len .now) (S A .args .n)
+many A = names-length (S A .args .s .now) (S A .args .places .now) (S A .args .n)
 
 loop-holds : tie.Need-loop-holds Inv-loop μ-loop
 unfolding cutAll
 loop-holds c =
-    let Z = c .before .before .before .before in
+    let Z = c .before .before .before in
     record {
       few = omega arith;
       inside = Z .pre .1 .3;
@@ -95,8 +95,8 @@ statement-line-requires c κs = let A = c .before in (S A .pre .0, A .loop .inv 
 enum-known-r : tie.Need-enum-known-r Inv-loop μ-loop
 enum-known-r c = search needs
 
-add-t18 : tie.Need-add-t18 Inv-loop μ-loop
-add-t18 c = let A = L (c .before .before .before) in omega (arith, A .loop .inv .short, A .loop .inv .inside)
+add-t17 : tie.Need-add-t17 Inv-loop μ-loop
+add-t17 c = let A = L (c .before .before .before) in omega (arith, A .loop .inv .short, A .loop .inv .inside)
 
 same-length : tie.Need-same-length Inv-loop μ-loop
 same-length c = L (c .before .before .before) .loop .inv .long
@@ -155,8 +155,8 @@ loop-again c =
           (omega arith);
     }
 
-add-t22 : tie.Need-add-t22 Inv-loop μ-loop
-add-t22 c = omega (arith, c .before .loop .inv .short, c .before .loop .inv .inside)
+add-t21 : tie.Need-add-t21 Inv-loop μ-loop
+add-t21 c = omega (arith, c .before .loop .inv .short, c .before .loop .inv .inside)
 
 same-length-2 : tie.Need-same-length-2 Inv-loop μ-loop
 same-length-2 c = c .before .loop .inv .long
@@ -183,7 +183,7 @@ body-of-spec =
     loop-holds
     statement-line-requires
     enum-known-r
-    add-t18
+    add-t17
     same-length
     returns
     enum-known-u
@@ -191,6 +191,6 @@ body-of-spec =
     add-k
     loop-less
     loop-again
-    add-t22
+    add-t21
     same-length-2
     returns-2)

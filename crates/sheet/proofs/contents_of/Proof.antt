@@ -1,7 +1,7 @@
 -- The contents from the start say what the table so far and the lines from a on say.
 use mathlib.Core.Path.{_≡_, refl, sym, _∙_, ap, subst}
 use mathlib.Core.List.{List, [], _∷_, _++_}
-use Prim.Native.Nat.{ℕ, suc, _+_, _-_, _≤_, _<_}
+use Prim.Native.Nat.{ℕ, suc, _+_, _*_, _-_, _≤_, _<_}
 use native.Mathlib.Omega.{arith}
 use native.Mathlib.Nat.{sub-zero}
 use native.Mathlib.Numerals.{add-one}
@@ -19,37 +19,36 @@ use Rattle.sheet.proofs.contents_of.Statement.{statement}
 use Rattle.sheet.proofs.contents_of.Tie as tie
 
 -- i names are in the table, and the next line begins at a
-record SoFar (s : List ℕ) (n start : ℕ) (at len count : List ℕ) (a i : ℕ) : Type 0 where
+record SoFar (s : List ℕ) (n start : ℕ) (places count : List ℕ) (a i : ℕ) : Type 0 where
   few : i ≤ n
-  at-long : length at ≡ mostEvents
-  len-long : length len ≡ mostEvents
+  places-long : length places ≡ 2 * mostEvents
   count-long : length count ≡ mostEvents
-  within : Within s at len i
-  starts : Starts s at i
+  within : Within s places i
+  starts : Starts s places i
   begins : Begins s (i + 1) a
-  says : contents words n [] [] (partsFrom s start) 2 ≡ contents words (n - i) (namesAt s at len i) (take i count) (partsFrom s a) (i + 2)
+  says : contents words n [] [] (partsFrom s start) 2 ≡ contents words (n - i) (namesAt s places i) (take i count) (partsFrom s a) (i + 2)
 
 abbrev Inv-loop : tie.InvT-loop
-Inv-loop s n start at₀ len₀ count₀ a₀ i₀ at len count a i = SoFar s n start at len count a i
+Inv-loop s n start places₀ count₀ a₀ i₀ places count a i = SoFar s n start places count a i
 
 abbrev μ-loop : tie.MeasureT-loop
-μ-loop s n start at₀ len₀ count₀ a₀ i₀ at len count a i = n - i
+μ-loop s n start places₀ count₀ a₀ i₀ places count a i = n - i
 
 abbrev L : tie.After-entry-line Inv-loop μ-loop → tie.At-loop Inv-loop μ-loop
-L E = E .before .before .before .before
+L E = E .before .before .before
 
 abbrev S : tie.After-entry-line Inv-loop μ-loop → tie.Start Inv-loop μ-loop
 S E = L E .before .before
 
 abbrev Names : tie.After-entry-line Inv-loop μ-loop → List (List ℕ)
-Names E = namesAt (S E .args .s .now) (L E .loop .at) (L E .loop .len) (L E .loop .i)
+Names E = namesAt (S E .args .s .now) (L E .loop .places) (L E .loop .i)
 
 -- what the line says
 says : (E : tie.After-entry-line Inv-loop μ-loop) (x : EntryLine) → E .entry-line .result ≡ x → EntrySays (Names E) (S E .args .s .now) (L E .loop .a) x
 says E x e = subst (EntrySays (Names E) (S E .args .s .now) (L E .loop .a)) e (E .entry-line .ensures)
 
 more : (E : tie.After-entry-line Inv-loop μ-loop) → S E .args .n - L E .loop .i ≡ suc (S E .args .n - (L E .loop .i + 1))
-more E = omega (arith, E .before .before .before .loop-test .taken)
+more E = omega (arith, E .before .before .loop-test .taken)
 
 loop-holds : tie.Need-loop-holds Inv-loop μ-loop
 unfolding namesAt
@@ -57,8 +56,7 @@ loop-holds c =
     let Z = c .before in
     record {
       few = omega arith;
-      at-long = refl;
-      len-long = refl;
+      places-long = refl;
       count-long = refl;
       within = λ i h. absurd (omega arith);
       starts = λ i h. absurd (omega arith);
@@ -67,22 +65,19 @@ loop-holds c =
     }
 
 slice-aggregate-entry-line : tie.Need-slice-aggregate-entry-line Inv-loop μ-loop
-slice-aggregate-entry-line c = sym (c .before .before .loop .inv .at-long)
-
-slice-aggregate-entry-line-2 : tie.Need-slice-aggregate-entry-line-2 Inv-loop μ-loop
-slice-aggregate-entry-line-2 c = sym (c .before .before .before .loop .inv .len-long)
+slice-aggregate-entry-line c = sym (c .before .before .loop .inv .places-long)
 
 entry-line-requires : tie.Need-entry-line-requires Inv-loop μ-loop
 entry-line-requires c κs =
-    let A = c .before .before .before in
+    let A = c .before .before in
     let few : A .loop .i ≤ mostEvents = omega (arith, A .before .before .pre .0, A .loop .inv .few) in
-    (record { places = omega (arith, A .loop .inv .at-long); lengths = omega (arith, A .loop .inv .len-long); within = A .loop .inv .within }, A .loop .inv .begins .inside)
+    (record { room = omega (arith, A .loop .inv .places-long); within = A .loop .inv .within }, A .loop .inv .begins .inside)
 
 enum-known-r : tie.Need-enum-known-r Inv-loop μ-loop
 enum-known-r c = search needs
 
-add-t23 : tie.Need-add-t23 Inv-loop μ-loop
-add-t23 c = let A = L (c .before .before .before) in omega (arith, A .loop .inv .few, A .before .before .pre)
+add-t19 : tie.Need-add-t19 Inv-loop μ-loop
+add-t19 c = let A = L (c .before .before .before) in omega (arith, A .loop .inv .few, A .before .before .pre)
 
 returns : tie.Need-returns Inv-loop μ-loop
 returns c =
@@ -95,23 +90,36 @@ returns c =
 enum-known-k : tie.Need-enum-known-k Inv-loop μ-loop
 enum-known-k c = search needs
 
-mul-at : tie.Need-mul-at Inv-loop μ-loop
-mul-at c = omega (arith, L (c .before .before .before) .before .before .pre)
+-- the table has the two numbers of event i
+has : (E : tie.After-entry-line Inv-loop μ-loop) → 2 * L E .loop .i + 1 < length (L E .loop .places)
+has E = omega (arith, L E .loop .inv .places-long, S E .pre .0, E .before .before .loop-test .taken)
 
-array-write-at : tie.Need-array-write-at Inv-loop μ-loop
-array-write-at c = let E = c .before .before .before in omega (arith, L E .loop .inv .at-long, S E .pre, E .before .before .before .loop-test .taken)
+mul-places : tie.Need-mul-places Inv-loop μ-loop
+mul-places c = let E = c .before .before .before in omega (arith, has E, L E .loop .inv .places-long)
 
-mul-len : tie.Need-mul-len Inv-loop μ-loop
-mul-len c = omega (arith, L (c .before .before .before) .before .before .pre)
+mul-places-2 : tie.Need-mul-places-2 Inv-loop μ-loop
+mul-places-2 c = let E = c .before .before .before in omega (arith, has E, L E .loop .inv .places-long)
 
-array-write-len : tie.Need-array-write-len Inv-loop μ-loop
-array-write-len c = let E = c .before .before .before in omega (arith, L E .loop .inv .len-long, S E .pre, E .before .before .before .loop-test .taken)
+array-write-places : tie.Need-array-write-places Inv-loop μ-loop
+array-write-places c = omega (arith, has (c .before .before .before))
+
+mul-places-3 : tie.Need-mul-places-3 Inv-loop μ-loop
+mul-places-3 c = let E = c .before .before .before in omega (arith, has E, L E .loop .inv .places-long)
+
+add-places : tie.Need-add-places Inv-loop μ-loop
+add-places c = let E = c .before .before .before in omega (arith, has E, L E .loop .inv .places-long)
+
+mul-places-4 : tie.Need-mul-places-4 Inv-loop μ-loop
+mul-places-4 c = let E = c .before .before .before in omega (arith, has E, L E .loop .inv .places-long)
+
+array-write-places-2 : tie.Need-array-write-places-2 Inv-loop μ-loop
+array-write-places-2 c = let E = c .before .before .before in omega (arith, has E, L E .loop .inv .places-long)
 
 mul-count : tie.Need-mul-count Inv-loop μ-loop
 mul-count c = omega (arith, L (c .before .before .before) .before .before .pre)
 
 array-write-count : tie.Need-array-write-count Inv-loop μ-loop
-array-write-count c = let E = c .before .before .before in omega (arith, L E .loop .inv .count-long, S E .pre, E .before .before .before .loop-test .taken)
+array-write-count c = let E = c .before .before .before in omega (arith, L E .loop .inv .count-long, S E .pre, E .before .before .loop-test .taken)
 
 add-i : tie.Need-add-i Inv-loop μ-loop
 add-i c = search needs
@@ -130,30 +138,27 @@ loop-again c =
     let I = L E .loop .inv in
     let s = S E .args .s .now in
     let i = L E .loop .i in
-    let hi : i < mostEvents = omega (arith, S E .pre .0, E .before .before .before .loop-test .taken) in
-    let ha : i < length (L E .loop .at) = omega (arith, I .at-long) in
-    let hl : i < length (L E .loop .len) = omega (arith, I .len-long) in
+    let hi : i < mostEvents = omega (arith, S E .pre .0, E .before .before .loop-test .taken) in
     let hc : i < length (L E .loop .count) = omega (arith, I .count-long) in
     record {
       few = omega arith;
-      at-long = simp length-set (I .at-long);
-      len-long = simp length-set (I .len-long);
+      places-long = simp length-set (I .places-long);
       count-long = simp length-set (I .count-long);
-      within = within-more s (L E .loop .at) (L E .loop .len) i (L E .loop .a) k ha hl (I .within) (omega (arith, e .inside, e .ends .high));
-      starts = starts-more s (L E .loop .at) (L E .loop .len) i (L E .loop .a) k ha hl (I .starts) (I .begins);
+      within = within-more s (L E .loop .places) i (L E .loop .a) k (has E) (I .within) (omega (arith, e .inside, e .ends .high));
+      starts = starts-more s (L E .loop .places) i (L E .loop .a) k (has E) (I .starts) (I .begins);
       begins = begins-next s (i + 1) (L E .loop .a) b (I .begins) (e .ends);
       says =
           I .says
           ∙ contents-read words (S E .args .n - i) (S E .args .n - (i + 1)) (more E) (Names E) (take i (L E .loop .count)) (partsFrom s (L E .loop .a)) (i + 2) (e .sound)
           ∙ contents-cong words (S E .args .n - (i + 1))
-          (ap (λ (x : List ℕ). Names E ++ x ∷ []) (e .name) ∙ sym (names-more s (L E .loop .at) (L E .loop .len) i (L E .loop .a) k ha hl))
+          (ap (λ (x : List ℕ). Names E ++ x ∷ []) (e .name) ∙ sym (names-more s (L E .loop .places) i (L E .loop .a) k (has E)))
           (ap (λ (x : ℕ). take i (L E .loop .count) ++ x ∷ []) (e .count) ∙ sym (rw add-one (take-suc-set (L E .loop .count) i v hc)))
           (e .ends .rest)
           (omega arith);
     }
 
-add-t36 : tie.Need-add-t36 Inv-loop μ-loop
-add-t36 c = omega (arith, c .before .before .before .pre)
+add-t33 : tie.Need-add-t33 Inv-loop μ-loop
+add-t33 c = omega (arith, c .before .before .before .pre)
 
 returns-2 : tie.Need-returns-2 Inv-loop μ-loop
 returns-2 c =
@@ -166,17 +171,16 @@ returns-2 c =
     record {
       inside = I .begins .inside;
       table = record {
-        at-long = I .at-long;
-        len-long = I .len-long;
+        places-long = I .places-long;
         count-long = I .count-long;
         within = λ j h. I .within j (omega arith);
         starts = λ j h. I .starts j (omega arith);
       };
       says =
           subst
-          (λ (x : ℕ). contents words n [] [] (partsFrom s (Z .args .start)) 2 ≡ contents words (n - x) (namesAt s (A .loop .at) (A .loop .len) x) (take x (A .loop .count)) (partsFrom s (A .loop .a)) (x + 2))
+          (λ (x : ℕ). contents words n [] [] (partsFrom s (Z .args .start)) 2 ≡ contents words (n - x) (namesAt s (A .loop .places) x) (take x (A .loop .count)) (partsFrom s (A .loop .a)) (x + 2))
           e (I .says)
-          ∙ contents-done words (n - n) (omega arith) (namesAt s (A .loop .at) (A .loop .len) n) (take n (A .loop .count)) (partsFrom s (A .loop .a)) (n + 2);
+          ∙ contents-done words (n - n) (omega arith) (namesAt s (A .loop .places) n) (take n (A .loop .count)) (partsFrom s (A .loop .a)) (n + 2);
     }
 
 pub contents-of-spec : {M : Type 1} → statement M
@@ -187,20 +191,22 @@ contents-of-spec =
     μ-loop
     loop-holds
     slice-aggregate-entry-line
-    slice-aggregate-entry-line-2
     entry-line-requires
     enum-known-r
-    add-t23
+    add-t19
     returns
     enum-known-k
-    mul-at
-    array-write-at
-    mul-len
-    array-write-len
+    mul-places
+    mul-places-2
+    array-write-places
+    mul-places-3
+    add-places
+    mul-places-4
+    array-write-places-2
     mul-count
     array-write-count
     add-i
     loop-less
     loop-again
-    add-t36
+    add-t33
     returns-2)

@@ -14,10 +14,10 @@ use Rattle.sheet.proofs.entry_line.Statement.{statement}
 use Rattle.sheet.proofs.entry_line.Tie as tie
 
 abbrev S : tie.After-part-end → tie.Start
-S P = P .before .before .before .before
+S P = P .before .before .before
 
 abbrev Names : tie.After-part-end → List (List ℕ)
-Names P = namesAt (S P .args .s .now) (S P .args .at .now) (S P .args .len .now) (S P .args .i)
+Names P = namesAt (S P .args .s .now) (S P .args .places .now) (S P .args .i)
 
 -- the line
 abbrev Ln : tie.After-part-end → List ℕ
@@ -46,7 +46,7 @@ found F =
     ∙ ap (λ (m : List ℕ). find (Names (P (K F))) m) (name-bytes (Names (P (K F))) (S (P (K F)) .args .s .now) (S (P (K F)) .args .a) (P (K F) .part-end .result) (P (K F) .part-end .ensures) (inside (K F)) (K F .k .given .0 .0) (K F .k .given .0 .1 .0) (entry (K F)))
 
 many : (Q : tie.After-part-end) → length (Names Q) ≡ S Q .args .i
-many Q = names-length (S Q .args .s .now) (S Q .args .at .now) (S Q .args .len .now) (S Q .args .i)
+many Q = names-length (S Q .args .s .now) (S Q .args .places .now) (S Q .args .i)
 
 part-end-requires : tie.Need-part-end-requires
 part-end-requires c κs = search needs
@@ -87,8 +87,8 @@ part-find-name-end c = omega (arith, fits (c .before), inside (c .before))
 find-name-requires : tie.Need-find-name-requires
 find-name-requires c κs = S (P (c .before .before)) .pre .0
 
-add-t27 : tie.Need-add-t27
-add-t27 c = omega (arith, inside (K (c .before)))
+add-t26 : tie.Need-add-t26
+add-t26 c = omega (arith, inside (K (c .before)))
 
 returns-2 : tie.Need-returns-2
 returns-2 c =
@@ -127,7 +127,7 @@ entry-line-spec =
     part-find-name-start
     part-find-name-end
     find-name-requires
-    add-t27
+    add-t26
     returns-2
     returns-3
     returns-4)

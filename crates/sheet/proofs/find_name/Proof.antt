@@ -1,35 +1,35 @@
 -- The event looked for is the first of that name from i on: none before i has it.
 use mathlib.Core.Path.{_≡_, sym, _∙_, ap}
 use mathlib.Core.List.{List, []}
-use Prim.Native.Nat.{ℕ, _+_, _-_, _≤_, _<_}
+use Prim.Native.Nat.{ℕ, _+_, _*_, _-_, _≤_, _<_}
 use native.Mathlib.Omega.{arith}
 use lib.ListN.{length, take, drop, getD}
 use Rattle.text.specs.Names.{sameName}
 use Rattle.sheet.specs.Sheet.{find}
-use Rattle.sheet.specs.Steps.{namesAt}
+use Rattle.sheet.specs.Steps.{startAt, lengthAt, namesAt}
 use Rattle.sheet.proofs.ContentsLaws.{names-length, names-at, find-hit, find-miss, find-end}
 use borrow.Author.Needs.{needs}
 use Rattle.sheet.proofs.find_name.Statement.{statement}
 use Rattle.sheet.proofs.find_name.Tie as tie
 
 abbrev Inv-loop : tie.InvT-loop
-Inv-loop s at len n m i₀ i = (i ≤ n) × (find (namesAt s at len n) m ≡ i + find (drop i (namesAt s at len n)) m)
+Inv-loop s places n m i₀ i = (i ≤ n) × (find (namesAt s places n) m ≡ i + find (drop i (namesAt s places n)) m)
 
 abbrev μ-loop : tie.MeasureT-loop
-μ-loop s at len n m i₀ i = n - i
+μ-loop s places n m i₀ i = n - i
 
 abbrev Z : tie.At-loop Inv-loop μ-loop → tie.Start Inv-loop μ-loop
-Z L = L .before .before .before .before .before
+Z L = L .before .before .before .before
 
 abbrev Names : tie.At-loop Inv-loop μ-loop → List (List ℕ)
-Names L = namesAt (Z L .args .s .now) (Z L .args .at .now) (Z L .args .len .now) (Z L .args .n)
+Names L = namesAt (Z L .args .s .now) (Z L .args .places .now) (Z L .args .n)
 
 many : (L : tie.At-loop Inv-loop μ-loop) → length (Names L) ≡ Z L .args .n
-many L = names-length (Z L .args .s .now) (Z L .args .at .now) (Z L .args .len .now) (Z L .args .n)
+many L = names-length (Z L .args .s .now) (Z L .args .places .now) (Z L .args .n)
 
 -- the name of event i lies in the sheet
 within : (T : tie.In-loop Inv-loop μ-loop) → let L = T .before in
-    getD (Z L .args .at .now) (L .loop .i) 0 + getD (Z L .args .len .now) (L .loop .i) 0 ≤ length (Z L .args .s .now)
+    startAt (Z L .args .places .now) (L .loop .i) + lengthAt (Z L .args .places .now) (L .loop .i) ≤ length (Z L .args .s .now)
 within T = Z (T .before) .pre .within (T .before .loop .i) (T .loop-test .taken)
 
 -- the call compares the name of event i
@@ -40,11 +40,11 @@ compared : (P : tie.After-same-name Inv-loop μ-loop) → sameName (getD (Names 
 compared P =
     let A = Z (L P) .args in
     let i = L P .loop .i in
-    let a = getD (A .at .now) i 0 in
-    let k = getD (A .len .now) i 0 in
+    let a = startAt (A .places .now) i in
+    let k = lengthAt (A .places .now) i in
     let q : k ≡ a + k - a = omega arith in
     ap (λ (x : List ℕ). sameName x (A .m .now))
-    (names-at (A .s .now) (A .at .now) (A .len .now) (A .n) i (P .before .before .before .before .loop-test .taken) ∙ ap (λ (y : ℕ). take y (drop a (A .s .now))) q)
+    (names-at (A .s .now) (A .places .now) (A .n) i (P .before .before .before .before .loop-test .taken) ∙ ap (λ (y : ℕ). take y (drop a (A .s .now))) q)
     ∙ sym (P .same-name .ensures)
 
 inside : (P : tie.After-same-name Inv-loop μ-loop) → L P .loop .i < length (Names (L P))
@@ -53,20 +53,33 @@ inside P = omega (arith, many (L P), P .before .before .before .before .loop-tes
 loop-holds : tie.Need-loop-holds Inv-loop μ-loop
 loop-holds c = search needs
 
+-- the table has the two numbers of event i
+has : (T : tie.In-loop Inv-loop μ-loop) → 2 * T .before .loop .i + 1 < length (Z (T .before) .args .places .now)
+has T = omega (arith, Z (T .before) .pre .room, T .loop-test .taken)
+
 mul-a : tie.Need-mul-a Inv-loop μ-loop
-mul-a c = let h : c .before .loop .i < length (Z (c .before) .args .at .now) = omega (arith, Z (c .before) .pre) in search needs
+mul-a c = let h = has c in search needs
+
+mul-a-2 : tie.Need-mul-a-2 Inv-loop μ-loop
+mul-a-2 c = let h = has c in search needs
 
 shared-slice-read-a : tie.Need-shared-slice-read-a Inv-loop μ-loop
-shared-slice-read-a c = omega (arith, Z (c .before .before) .pre)
+shared-slice-read-a c = omega (arith, has (c .before))
 
 mul-e : tie.Need-mul-e Inv-loop μ-loop
-mul-e c = let h : c .before .before .loop .i < length (Z (c .before .before) .args .len .now) = omega (arith, Z (c .before .before) .pre) in search needs
-
-shared-slice-read-e : tie.Need-shared-slice-read-e Inv-loop μ-loop
-shared-slice-read-e c = omega (arith, Z (c .before .before .before) .pre)
+mul-e c = let h = has (c .before) in search needs
 
 add-e : tie.Need-add-e Inv-loop μ-loop
-add-e c = omega (arith, within (c .before .before))
+add-e c = let h = has (c .before) in search needs
+
+mul-e-2 : tie.Need-mul-e-2 Inv-loop μ-loop
+mul-e-2 c = let h = has (c .before) in search needs
+
+shared-slice-read-e : tie.Need-shared-slice-read-e Inv-loop μ-loop
+shared-slice-read-e c = omega (arith, has (c .before .before))
+
+add-e-2 : tie.Need-add-e-2 Inv-loop μ-loop
+add-e-2 c = omega (arith, within (c .before .before))
 
 sub-same-name : tie.Need-sub-same-name Inv-loop μ-loop
 sub-same-name c = omega (arith, within (c .before .before))
@@ -109,10 +122,13 @@ find-name-spec =
     μ-loop
     loop-holds
     mul-a
+    mul-a-2
     shared-slice-read-a
     mul-e
-    shared-slice-read-e
     add-e
+    mul-e-2
+    shared-slice-read-e
+    add-e-2
     sub-same-name
     part-same-name-start
     part-same-name-end

@@ -26,7 +26,7 @@ listed P = says (C P) (At (P .place2 .given .0 .0) (P .place2 .given .0 .1 .0)) 
 
 -- and the grid is filled
 abbrev P : tie.After-fill-start → tie.After-place2
-P G = G .before .before .before .before .before .before
+P G = G .before .before .before .before .before
 
 contents-of-requires : tie.Need-contents-of-requires
 contents-of-requires c κs = search needs
@@ -46,12 +46,9 @@ slice-aggregate-bodies-of c = search needs
 slice-aggregate-bodies-of-2 : tie.Need-slice-aggregate-bodies-of-2
 slice-aggregate-bodies-of-2 c = search needs
 
-slice-aggregate-bodies-of-3 : tie.Need-slice-aggregate-bodies-of-3
-slice-aggregate-bodies-of-3 c = search needs
-
 bodies-of-requires : tie.Need-bodies-of-requires
 bodies-of-requires c κs =
-    let G = c .before .before .before .before .before .before in
+    let G = c .before .before .before .before .before in
     let Z = S (C (P G)) in
     let t = listed (P G) .table in (
       table-keeps _ _ _ (Z .pre .0) t,
@@ -67,9 +64,9 @@ same-length c = search needs
 returns-2 : tie.Need-returns-2
 returns-2 c =
     let B = c .before .before in
-    let G = B .before .before .before .before .before .before .before in
+    let G = B .before .before .before .before .before .before in
     let Z = S (C (P G)) in
-    sheet-says words (Z .args .s .now) (G .fill-start .last .0) (B .bodies-of .last .1 .1 .1 .1 .1 .1 .0) (Z .args .n) (Z .args .start) (C (P G) .contents-of .result .table) (P G .place2 .given .0 .0)
+    sheet-says words (Z .args .s .now) (G .fill-start .last .0) (B .bodies-of .last .1 .1 .1 .1 .1 .0) (Z .args .n) (Z .args .start) (C (P G) .contents-of .result .table) (P G .place2 .given .0 .0)
     (Z .pre .0) (listed (P G)) (G .fill-start .ensures) (B .bodies-of .result) (B .bodies-of .ensures)
 
 pub lines-into-spec : {M : Type 1} → statement M
@@ -82,7 +79,6 @@ lines-into-spec =
     fill-start-requires
     slice-aggregate-bodies-of
     slice-aggregate-bodies-of-2
-    slice-aggregate-bodies-of-3
     bodies-of-requires
     returns
     same-length

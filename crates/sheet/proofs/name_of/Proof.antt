@@ -43,12 +43,9 @@ enum-known-answer c = search needs
 slice-aggregate-name-at : tie.Need-slice-aggregate-name-at
 slice-aggregate-name-at c = search needs
 
-slice-aggregate-name-at-2 : tie.Need-slice-aggregate-name-at-2
-slice-aggregate-name-at-2 c = search needs
-
 name-at-requires : tie.Need-name-at-requires
 name-at-requires c κs =
-    let A = c .before .before .before .before .before in
+    let A = c .before .before .before in
     table-keeps _ _ _ (read A .few) (read A .table)
 
 returns : tie.Need-returns
@@ -60,12 +57,12 @@ returns c =
 
 returns-2 : tie.Need-returns-2
 returns-2 c =
-    let A = c .before .before .before .before .before .before in
+    let A = c .before .before .before .before in
     let r = c .name-at .ensures in
     let i = S (F A) .args .i in
     let n = A .answer .given .0 .0 in
     let t = F A .read-into .result .table in
-    let m = names-length (S (F A) .args .s .now) (t .at) (t .len) n in
+    let m = names-length (S (F A) .args .s .now) (t .places) n in
     record {
       bytes = rw (read A .says) (r .bytes);
       memory = r .memory;
@@ -85,7 +82,6 @@ name-of-spec =
     slice-aggregate-result
     enum-known-answer
     slice-aggregate-name-at
-    slice-aggregate-name-at-2
     name-at-requires
     returns
     returns-2)

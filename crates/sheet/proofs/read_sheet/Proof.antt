@@ -76,7 +76,7 @@ returns-3 c =
     let n = A .answer2 .given .0 .0 in
     let t = F A .read-into .result .table in
     let e = eq-eqb (length room) roomCells (F A .before .before .if1 .left) in
-    let m = names-length (S (F A) .args .s .now) (t .at) (t .len) n in
+    let m = names-length (S (F A) .args .s .now) (t .places) n in
     record {
       answer = rw (e, read A .says, m);
       room = rw (e, read A .says, m) (c .before .before .copy .ensures ∙ ap (λ (x : List ℕ). x ++ drop (n * n) room) (read A .grid));

@@ -15,10 +15,10 @@ use Rattle.sheet.proofs.statement_line.Statement.{statement}
 use Rattle.sheet.proofs.statement_line.Tie as tie
 
 abbrev S : tie.After-part-end → tie.Start
-S P = P .before .before .before .before
+S P = P .before .before .before
 
 abbrev Names : tie.After-part-end → List (List ℕ)
-Names P = namesAt (S P .args .s .now) (S P .args .at .now) (S P .args .len .now) (S P .args .n)
+Names P = namesAt (S P .args .s .now) (S P .args .places .now) (S P .args .n)
 
 -- the line
 abbrev Ln : tie.After-part-end → List ℕ
@@ -47,7 +47,7 @@ found F =
     ∙ ap (λ (m : List ℕ). find (Names (P (K F))) m) (other-bytes words (Names (P (K F))) (S (P (K F)) .args .i) (S (P (K F)) .args .s .now) (S (P (K F)) .args .a) (P (K F) .part-end .result) (P (K F) .part-end .ensures) (inside (K F)) (K F .k .given .0 .0) (K F .k .given .0 .1 .0) (said (K F)))
 
 many : (Q : tie.After-part-end) → length (Names Q) ≡ S Q .args .n
-many Q = names-length (S Q .args .s .now) (S Q .args .at .now) (S Q .args .len .now) (S Q .args .n)
+many Q = names-length (S Q .args .s .now) (S Q .args .places .now) (S Q .args .n)
 
 listed : (F : tie.After-find-name) → (F .find-name .result ≡ S (P (K F)) .args .n → ⊥) → F .find-name .result < length (Names (P (K F)))
 listed F h = omega (arith, h, found F, many (P (K F)), find-le (Names (P (K F))) (otherIn (Ln (P (K F)))))
@@ -94,8 +94,8 @@ part-find-name-end c = omega (arith, inside (c .before))
 find-name-requires : tie.Need-find-name-requires
 find-name-requires c κs = S (P (c .before .before)) .pre .0
 
-add-t31 : tie.Need-add-t31
-add-t31 c = omega (arith, inside (K (c .before .before)))
+add-t30 : tie.Need-add-t30
+add-t30 c = omega (arith, inside (K (c .before .before)))
 
 returns-2 : tie.Need-returns-2
 returns-2 c =
@@ -139,7 +139,7 @@ statement-line-spec =
     part-find-name-start
     part-find-name-end
     find-name-requires
-    add-t31
+    add-t30
     returns-2
     returns-3
     returns-4

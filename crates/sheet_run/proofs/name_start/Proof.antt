@@ -31,6 +31,9 @@ enum-known-answer c = search needs
 mul-result : tie.Need-mul-result
 mul-result c = omega (arith, c .if1 .taken, read (c .before .before .before) .few)
 
+mul-result-2 : tie.Need-mul-result-2
+mul-result-2 c = omega (arith, c .if1 .taken, read (c .before .before .before) .few)
+
 array-read-result : tie.Need-array-read-result
 array-read-result c = omega (arith, c .if1 .taken, read (c .before .before .before) .few)
 
@@ -52,6 +55,7 @@ name-start-spec =
     enum-told
     enum-known-answer
     mul-result
+    mul-result-2
     array-read-result
     returns
     returns-2
