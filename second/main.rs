@@ -1,4 +1,4 @@
-//! The second program: the rules of document 01 once more, by the plainest methods,
+//! The second program: the rules once more, by the plainest methods,
 //! to compare the library and its programs with. It shares nothing with them.
 
 mod compare;

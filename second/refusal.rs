@@ -1,4 +1,4 @@
-//! The numbers of the refusals, as document 01 lists them.
+//! The numbers of the refusals, as the rules list them.
 
 pub const TOO_MANY_EVENTS: u32 = 1;
 pub const GRID_LENGTH: u32 = 2;

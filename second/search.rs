@@ -254,7 +254,7 @@ mod tests {
     use super::*;
     use crate::relation::RELATIONS;
 
-    /// The grid of document 01's sheet.
+    /// The grid of the example sheet.
     fn mill_flood_wedding() -> Grid {
         let mut grid = Grid::any(3);
         grid.put(1, 0, mark(8));

@@ -1,4 +1,4 @@
-//! Judges this program itself: by document 01's examples, and small grids by every placing.
+//! Judges this program itself: by the worked examples, and small grids by every placing.
 
 use crate::grid::{close_plainly, close_quickly, Grid, PlainAnswer, QuickAnswer};
 use crate::grid_cases;
@@ -39,7 +39,7 @@ fn only(name: &str) -> u16 {
     NAMES.iter().position(|&known| known == name).map_or(0, mark)
 }
 
-/// The twelve examples that document 01 lists.
+/// The twelve worked examples of the rules.
 fn worked_examples() -> Result<usize, String> {
     let compositions = [
         ("b", "b", 1),
@@ -72,7 +72,7 @@ fn worked_examples() -> Result<usize, String> {
     Ok(compositions.len() + 4)
 }
 
-/// Sheets with the answers that document 01 states, and those at its limits.
+/// Sheets with the answers that the rules state, and those at the limits.
 fn printed_answers() -> Result<usize, String> {
     let contents = |n: usize| {
         let names: String = (0..n).map(|i| format!("e{i} 0\n")).collect();

@@ -8,7 +8,7 @@ use crate::random::Random;
 use crate::relation::{between, mark, members, ANY, NAMES, RELATIONS};
 use crate::sheet::{FURTHER_WORDS, LONGEST_NAME, MOST_BYTES};
 
-/// The sheet of document 01.
+/// The example sheet.
 pub const EXAMPLE: &str = "3\nmill 0\nflood 1\nwedding 1\nd mill\nb,m flood\n";
 
 fn random_name(random: &mut Random) -> String {

@@ -1,4 +1,4 @@
--- What each refusal of a grid says, and that a grid without one is accepted. Assumes nothing.
+-- What each refusal of a grid says, and that a grid without one is accepted.
 use mathlib.Core.Path.{_≡_, refl, sym, ap, _∙_, subst}
 use mathlib.Core.Bool.{Bool, true, false, not, cond}
 use mathlib.Core.List.{List}

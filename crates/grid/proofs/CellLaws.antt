@@ -1,4 +1,4 @@
--- Where a cell stands, and what a put changes. Assumes nothing.
+-- Where a cell stands, and what a put changes.
 use mathlib.Core.Path.{_≡_, refl, ap, ap₂, sym, _∙_, subst}
 use mathlib.Core.List.{List, [], _∷_, _++_}
 use Prim.Native.Nat.{ℕ, zero, suc, _+_, _*_, _/_, _%_, _≤_, _<_}

@@ -1,4 +1,4 @@
--- What an answer's number says of the refusals that come after it. Assumes nothing.
+-- What an answer's number says of the refusals that come after it.
 use mathlib.Core.Path.{_≡_, refl, sym, ap, _∙_, subst}
 use Prim.Native.Nat.{ℕ, _<_}
 use native.Mathlib.Omega.{arith}

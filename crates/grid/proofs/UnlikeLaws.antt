@@ -1,4 +1,4 @@
--- A cell that is not the converse of its mirror is found above the diagonal, where the other cells are all right. Assumes nothing.
+-- A cell that is not the converse of its mirror is found above the diagonal, where the other cells are all right.
 use mathlib.Core.Path.{_≡_, sym, ap, ap₂, _∙_, subst}
 use mathlib.Core.Bool.{Bool, true, false, not, _&&_}
 use mathlib.Core.List.{List}

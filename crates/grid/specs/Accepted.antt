@@ -1,4 +1,4 @@
--- Document 01, "Grids" and "What comes back": when a grid is accepted, and the refusals 1 to 5. Assumes nothing.
+-- Rules 3.2 and 7: when a grid is accepted, and the refusals 1 to 5.
 use mathlib.Core.Path.{_≡_}
 use mathlib.Core.Bool.{Bool, not, cond}
 use mathlib.Core.List.{List}

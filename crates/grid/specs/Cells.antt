@@ -1,4 +1,4 @@
--- Document 01, "Grids": a grid of n events is a list of sets; cell (i, j) is at place i * n + j. Assumes nothing.
+-- Rules 3.1: a grid of n events is a list of sets; cell (i, j) is at place i * n + j.
 use mathlib.Core.Path.{_≡_}
 use mathlib.Core.Bool.{Bool}
 use mathlib.Core.List.{List, [], _∷_, _++_}

@@ -1,4 +1,4 @@
--- Document 01, "The work" and "What comes back": when a placing meets a grid. Assumes nothing.
+-- Rules 3.2: when a placing meets a grid.
 use mathlib.Core.List.{List}
 use Prim.Native.Nat.{ℕ, _<_}
 use lib.Dec.{T}

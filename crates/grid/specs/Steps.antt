@@ -1,4 +1,4 @@
--- What inner functions on grids say. The public statements do not cite this. Assumes nothing.
+-- What inner functions on grids say. The public statements do not cite this.
 use mathlib.Core.Path.{_≡_}
 use mathlib.Core.Bool.{Bool, _&&_}
 use mathlib.Core.List.{List}

@@ -1,4 +1,4 @@
--- The answers of the public functions as numbers, for a caller in C. Assumes nothing.
+-- The answers of the public functions as numbers, for a caller in C.
 use mathlib.Core.Path.{_≡_}
 use Prim.Native.Nat.{ℕ, _+_, _*_, _%_}
 use Rattle.refusal.specs.Numbers.{numberOf}

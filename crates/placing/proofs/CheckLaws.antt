@@ -1,4 +1,4 @@
--- The refusals of the checker, and that its statement determines its answer. Assumes nothing.
+-- The refusals of the checker, and that its statement determines its answer.
 use mathlib.Core.Path.{_≡_, refl, sym, ap, _∙_}
 use mathlib.Core.Bool.{Bool, true, false, cond}
 use mathlib.Core.List.{List}

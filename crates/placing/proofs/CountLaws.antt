@@ -1,4 +1,4 @@
--- How many numbers pass a test: laws of counting, and that a count of what is below keeps a weak order. Assumes nothing.
+-- How many numbers pass a test: laws of counting, and that a count of what is below keeps a weak order.
 use mathlib.Core.Path.{_≡_, refl, sym, ap, ap₂, _∙_, subst}
 use mathlib.Core.Bool.{Bool, true, false}
 use mathlib.Core.List.{List, [], _∷_}

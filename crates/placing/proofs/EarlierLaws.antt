@@ -1,4 +1,4 @@
--- The four sets of relations under which an end of X is before an end of Y agree with the meaning: one computed test over ranks. Assumes nothing.
+-- The four sets of relations under which an end of X is before an end of Y agree with the meaning: one computed test over ranks.
 use mathlib.Core.Path.{_≡_, refl, sym, ap, ap₂, _∙_, subst}
 use mathlib.Core.Bool.{Bool, true, false, not, _&&_}
 use mathlib.Core.List.{List, [], _∷_}

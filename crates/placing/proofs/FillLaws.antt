@@ -1,4 +1,4 @@
--- A list that is filled from its beginning, one place after the other. Assumes nothing.
+-- A list that is filled from its beginning, one place after the other.
 use mathlib.Core.Path.{_≡_, sym, ap, _∙_}
 use mathlib.Core.List.{List}
 use Prim.Native.Nat.{ℕ, _+_, _<_}

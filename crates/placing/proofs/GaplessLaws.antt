@@ -1,4 +1,4 @@
--- Numbering without gaps: how many different values are below one. It keeps every comparison, leaves no gap, and is the only numbering that does both. Assumes nothing.
+-- Numbering without gaps: how many different values are below one. It keeps every comparison, leaves no gap, and is the only numbering that does both.
 use mathlib.Core.Path.{_≡_, refl, sym, ap, _∙_}
 use mathlib.Core.Bool.{Bool, true, false}
 use Prim.Native.Nat.{ℕ, zero, suc, _+_, _≤_, _<_}

@@ -1,4 +1,4 @@
--- A list, or any numbers for the ends, that passes the two tests of the checker gives a placing that meets the grid, and one that fails gives none. Assumes nothing.
+-- A list, or any numbers for the ends, that passes the two tests of the checker gives a placing that meets the grid, and one that fails gives none.
 use mathlib.Core.Path.{_≡_, refl, sym, ap, ap₂, _∙_, subst}
 use mathlib.Core.Bool.{Bool, true, false, not}
 use mathlib.Core.List.{List}

@@ -1,4 +1,4 @@
--- What settling means: the placing it works out meets the grid without gaps, a scenario that it does not settle has no placing, and a scenario has no other placing without gaps. Assumes nothing.
+-- What settling means: the placing it works out meets the grid without gaps, a scenario that it does not settle has no placing, and a scenario has no other placing without gaps.
 use mathlib.Core.Path.{_≡_, refl, sym, ap, ap₂, _∙_, subst}
 use mathlib.Core.Bool.{Bool, true, false, not, _&&_}
 use mathlib.Core.List.{List}

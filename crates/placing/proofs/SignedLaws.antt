@@ -1,4 +1,4 @@
--- Signed numbers of 32 bits: what is read back from the bits is the number. Assumes nothing.
+-- Signed numbers of 32 bits: what is read back from the bits is the number.
 use mathlib.Core.Bool.{true, false}
 use mathlib.Core.Path.{_≡_, refl, sym, ap, ap₂, _∙_, subst}
 use Prim.Native.Nat.{_^_, _<_}

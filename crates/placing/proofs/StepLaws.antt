@@ -1,4 +1,4 @@
--- What the steps of settling give: from the counts of the ends to their numbers, and from the numbers to the answer and the room. Assumes nothing.
+-- What the steps of settling give: from the counts of the ends to their numbers, and from the numbers to the answer and the room.
 use mathlib.Core.Path.{_≡_, sym, ap, ap₂, _∙_}
 use mathlib.Core.Bool.{Bool, true, false, cond, not, _&&_}
 use mathlib.Core.List.{List}

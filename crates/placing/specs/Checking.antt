@@ -1,4 +1,4 @@
--- Document 01, "What comes back": the refusals 1 to 7 in their order, and what the checker says. Assumes nothing.
+-- Rules 5.3 and 7: the refusals 1 to 7 in their order, and what the checker says.
 use mathlib.Core.Path.{_≡_}
 use mathlib.Core.Bool.{Bool, not, cond}
 use mathlib.Core.List.{List}

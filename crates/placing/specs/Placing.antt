@@ -1,4 +1,4 @@
--- Document 01, "The work" and "Looking for a placing": numbers that give a placing, and when they have no gaps. Assumes nothing.
+-- Rules 1 and 5.2: numbers that give a placing, and when they have no gaps.
 use mathlib.Core.Path.{_≡_}
 use mathlib.Core.List.{List}
 use Prim.Native.Nat.{ℕ, _+_, _*_, _<_}

@@ -1,4 +1,4 @@
--- How the placing without gaps of a scenario is worked out and checked: what the rule of the search cites. proofs/SettleLaws.antt shows what it means. Assumes nothing.
+-- How the placing without gaps of a scenario is worked out and checked: what the rule of the search cites. proofs/SettleLaws.antt shows what it means.
 use mathlib.Core.Path.{_≡_}
 use mathlib.Core.Bool.{Bool, cond, not, _&&_}
 use mathlib.Core.List.{List, [], _∷_}

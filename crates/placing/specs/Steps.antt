@@ -1,4 +1,4 @@
--- What only the inner functions of this crate cite. Assumes nothing.
+-- What only the inner functions of this crate cite.
 use mathlib.Core.Path.{_≡_}
 use mathlib.Core.List.{List}
 use Prim.Native.Nat.{ℕ, _*_, _≤_, _<_}

@@ -1,4 +1,4 @@
--- What the sweeps leave is the largest closed grid inside; and the public statement. Assumes nothing.
+-- What the sweeps leave is the largest closed grid inside; and the public statement.
 use mathlib.Core.Path.{_≡_, refl, ap, sym, _∙_, subst}
 use mathlib.Core.Logic.{_⊎_, inl, inr}
 use mathlib.Core.Bool.{Bool, true, false}

@@ -1,4 +1,4 @@
--- How the parts of a sweep fit together. Assumes nothing.
+-- How the parts of a sweep fit together.
 use mathlib.Core.Path.{_≡_, refl, ap, sym, _∙_, subst}
 use mathlib.Core.Logic.{_⊎_, inl, inr}
 use mathlib.Core.List.{List}

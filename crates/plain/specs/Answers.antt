@@ -1,4 +1,4 @@
--- Document 01, "Plain closing" and "What comes back": the answer and the cells afterwards, for every input. Assumes nothing.
+-- Rules 4.2 and 7: the answer and the cells afterwards, for every input.
 use mathlib.Core.Path.{_≡_}
 use mathlib.Core.List.{List}
 use Prim.Native.Nat.{ℕ, _*_, _<_}

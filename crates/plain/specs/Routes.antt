@@ -1,4 +1,4 @@
--- The routes that a part of a sweep goes over, and what it comes to. Inner functions cite this; the public statement does not. Assumes nothing.
+-- The routes that a part of a sweep goes over, and what it comes to. Inner functions cite this; the public statement does not.
 use mathlib.Core.Path.{_≡_}
 use mathlib.Core.Logic.{_⊎_}
 use mathlib.Core.Bool.{true, false}

@@ -1,4 +1,4 @@
--- Takes, however many, say what closing leaves: from all pairs, and from the one pair that was cut in a closed grid. Assumes nothing.
+-- Takes, however many, say what closing leaves: from all pairs, and from the one pair that was cut in a closed grid.
 use mathlib.Core.Path.{_≡_, refl, sym, ap, subst, _∙_}
 use mathlib.Core.List.{List, [], _∷_}
 use Prim.Native.Nat.{ℕ, _*_, _<_}

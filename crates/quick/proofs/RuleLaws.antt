@@ -1,4 +1,4 @@
--- The rule of quick closing on an accepted grid: what it leaves is the largest closed grid inside, and its takes are bounded. Assumes nothing.
+-- The rule of quick closing on an accepted grid: what it leaves is the largest closed grid inside, and its takes are bounded.
 use mathlib.Core.Path.{_≡_, refl, sym, ap, _∙_, subst}
 use mathlib.Core.Bool.{Bool, true, false}
 use mathlib.Core.List.{List}

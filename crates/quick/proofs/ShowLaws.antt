@@ -1,4 +1,4 @@
--- From the end of a run to the answer and the cells. Assumes nothing.
+-- From the end of a run to the answer and the cells.
 use mathlib.Core.Path.{_≡_, refl, ap, sym, _∙_, subst}
 use mathlib.Core.Bool.{Bool, true, false}
 use mathlib.Core.List.{List}

@@ -1,4 +1,4 @@
--- Document 01, "Quick closing" and "What comes back": the answer and the cells afterwards, for every input. Assumes nothing.
+-- Rules 4.3 and 7: the answer and the cells afterwards, for every input.
 use mathlib.Core.Path.{_≡_}
 use mathlib.Core.Bool.{cond}
 use mathlib.Core.List.{List}
@@ -16,7 +16,7 @@ use Rattle.theory.specs.Quick.{Ended, contradiction, closed, paused, run}
 use Rattle.quick.specs.declared.QuickAnswer.{QuickAnswer}
 use Rattle.quick.specs.declared.QuickAnswer.the-variants.{Closed, Contradiction, Paused, Refused}
 
--- document 01's answers, each with its takes
+-- the answers, each with its takes
 pub data Said : Type 0 where
   saidClosed : ℕ → Said
   saidContradiction : ℕ → Said

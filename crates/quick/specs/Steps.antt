@@ -1,4 +1,4 @@
--- Quick closing of an accepted grid, and closing again after a cut. Inner functions cite this; the public statement does not. Assumes nothing.
+-- Quick closing of an accepted grid, and closing again after a cut. Inner functions cite this; the public statement does not.
 use mathlib.Core.Path.{_≡_}
 use mathlib.Core.List.{List}
 use Prim.Native.Nat.{ℕ, _<_}

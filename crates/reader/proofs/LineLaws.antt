@@ -1,4 +1,4 @@
--- Laws of the lines that a reader hands on. Assumes nothing.
+-- Laws of the lines that a reader hands on.
 use mathlib.Core.Path.{_≡_, refl, sym, _∙_, ap, subst}
 use mathlib.Core.Bool.{Bool, true, false, cond}
 use mathlib.Core.List.{List, [], _∷_}

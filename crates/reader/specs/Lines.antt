@@ -1,4 +1,4 @@
--- Document 01, "Sheets": the lines that a reader over a sheet hands on. Assumes nothing.
+-- Rules 6.5: the lines that a reader over a sheet hands on.
 use mathlib.Core.Bool.{cond}
 use mathlib.Core.List.{List, [], _∷_}
 use Prim.Native.Nat.{ℕ, _+_, _-_}

@@ -1,4 +1,4 @@
--- No refusal has the number 0, and no two have the same. Assumes nothing.
+-- No refusal has the number 0, and no two have the same.
 use mathlib.Core.Path.{_≡_, refl, sym, ap, _∙_}
 use mathlib.Core.List.{List, [], _∷_}
 use Prim.Native.Nat.{ℕ, _<_}

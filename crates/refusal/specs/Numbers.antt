@@ -1,4 +1,4 @@
--- Document 01, "What comes back": the number of each refusal. Assumes nothing.
+-- Rules 7.1: the number of each refusal.
 use Prim.Native.Nat.{ℕ}
 use Rattle.refusal.specs.declared.Refusal.{Refusal}
 use Rattle.refusal.specs.declared.Refusal.the-variants.{TooManyEvents, WrongLength, SetTooLarge, DiagonalNotEq, MirrorNotConverse, PlacingLength, StartNotBeforeEnd, SheetTooLong, LineForm, NameTwice, NoSuchEvent, AboutItself}

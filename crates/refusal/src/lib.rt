@@ -1,4 +1,4 @@
-// The refusals of document 01, "What comes back": one name for each number.
+// The refusals of Rules 7.1: one name for each number.
 ghost use mathlib.Core.Path.{_≡_};
 ghost use Rattle.refusal.specs.Numbers.{numberOf};
 
@@ -18,7 +18,7 @@ pub enum Refusal {
     AboutItself,
 }
 
-// The number that document 01 gives to a refusal.
+// The number of a refusal.
 pub fn number_of(refusal: Refusal) -> u8
     ensures { λ r. ⌜ r ≡ numberOf refusal ⌝ }
 {

@@ -1,4 +1,4 @@
--- Any two answers that the statements of converse and compose allow are equal. Assumes nothing.
+-- Any two answers that the statements of converse and compose allow are equal.
 use mathlib.Core.Path.{_≡_, ap, sym, _∙_}
 use Prim.Native.Nat.{ℕ}
 use native.Mathlib.Omega.{arith}

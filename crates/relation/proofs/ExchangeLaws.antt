@@ -1,4 +1,4 @@
--- Exchanging the two events: of a relation, and of a set (its converse). Assumes nothing.
+-- Exchanging the two events: of a relation, and of a set (its converse).
 use mathlib.Core.Path.{_≡_, refl, sym, ap, ap₂, _∙_, subst}
 use mathlib.Core.Bool.{Bool, _&&_}
 use Prim.Native.Nat.{ℕ, _^_, _<_}

@@ -1,4 +1,4 @@
--- The laws of composition of sets, from its meaning. Assumes nothing.
+-- The laws of composition of sets, from its meaning.
 use mathlib.Core.Path.{_≡_, refl, sym, ap, _∙_, subst}
 use mathlib.Core.Logic.{_↔_}
 use Prim.Native.Nat.{ℕ, _≤_, _<_}

@@ -1,4 +1,4 @@
--- The lowest member of a set, and the set without it. Assumes nothing.
+-- The lowest member of a set, and the set without it.
 use mathlib.Core.Path.{_≡_, refl, sym, ap, _∙_}
 use mathlib.Core.Bool.{true, false}
 use Prim.Native.Nat.{ℕ, zero, suc, _+_, _-_, _*_, _/_, _%_, _^_, _<_, _≤_, min, suc-le-suc}

@@ -1,4 +1,4 @@
--- Orders of whole numbers: comparing two. Assumes nothing.
+-- Orders of whole numbers: comparing two.
 use mathlib.Core.Path.{_≡_, refl, sym, ap, ap₂, subst}
 use mathlib.Core.Bool.{Bool, true, false}
 use Prim.Native.Nat.{_<_}

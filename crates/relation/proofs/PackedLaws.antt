@@ -1,4 +1,4 @@
--- Four sets in one number: what joins, cuts and picks them, and how they come to a composition. Assumes nothing.
+-- Four sets in one number: what joins, cuts and picks them, and how they come to a composition.
 use mathlib.Core.Path.{_≡_, refl, sym, ap, ap₂, _∙_}
 use mathlib.Core.Bool.{Bool, true, false, _||_, cond}
 use Prim.Native.Nat.{ℕ, zero, suc, _+_, _*_, _/_, _%_, _^_, _≤_, _<_}

@@ -1,4 +1,4 @@
--- The rank of a thing in a list, which keeps every comparison of a weak order. Assumes nothing.
+-- The rank of a thing in a list, which keeps every comparison of a weak order.
 use mathlib.Core.Path.{_≡_, refl, sym, ap}
 use mathlib.Core.Bool.{Bool, true, false}
 use mathlib.Core.List.{List, [], _∷_}

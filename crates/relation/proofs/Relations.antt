@@ -1,4 +1,4 @@
--- Between two placed events exactly one of the thirteen relations holds. Assumes nothing.
+-- Between two placed events exactly one of the thirteen relations holds.
 use mathlib.Core.Path.{_≡_, refl, sym, ap, ap₂, _∙_, subst}
 use mathlib.Core.Logic.{_↔_}
 use mathlib.Core.Bool.{Bool}

@@ -1,4 +1,4 @@
--- The table of 169 sets agrees with the meaning of composition: one computed test over the table. Assumes nothing.
+-- The table of 169 sets agrees with the meaning of composition: one computed test over the table.
 use mathlib.Core.Path.{_≡_, refl, sym, ap₂, _∙_, subst, subst₃}
 use mathlib.Core.Logic.{_↔_}
 use mathlib.Core.Bool.{Bool, true, false, _&&_}

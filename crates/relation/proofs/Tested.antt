@@ -1,4 +1,4 @@
--- Tests that antt computes over all small numbers, and what a passed test says of each. Assumes nothing.
+-- Tests that antt computes over all small numbers, and what a passed test says of each.
 use mathlib.Core.Path.{_≡_, refl, sym, ap, _∙_, subst}
 use mathlib.Core.Bool.{Bool, true, false, _&&_, _||_}
 use Prim.Native.Nat.{ℕ, zero, suc, _+_, _<_}

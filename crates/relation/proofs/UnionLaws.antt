@@ -1,4 +1,4 @@
--- The union of sets f r over the members r of a set: what its members are, and how a loop over the relations gathers it. Assumes nothing.
+-- The union of sets f r over the members r of a set: what its members are, and how a loop over the relations gathers it.
 use mathlib.Core.Path.{_≡_, sym, ap, _∙_, subst}
 use mathlib.Core.Bool.{_&&_, cond}
 use Prim.Native.Nat.{ℕ, zero, suc, _+_, _-_, _*_, _/_, _%_, _^_, _<_}

@@ -1,4 +1,4 @@
--- What the two functions on sets hand back, in document 01's numbers and values.
+-- Rules 2 and 7: what the two functions on sets hand back.
 use mathlib.Core.Bool.{cond, _&&_}
 use Prim.Native.Nat.{ℕ}
 use lib.Dec.{ltb}

@@ -1,4 +1,4 @@
--- The relation between two events, worked out by comparing their ends. proofs/Relations.antt shows that it is the one that holds. Assumes nothing.
+-- The relation between two events, worked out by comparing their ends. proofs/Relations.antt shows that it is the one that holds.
 use mathlib.Core.Bool.{Bool, true, false}
 use Prim.Native.Nat.{ℕ}
 use lib.Signed.{ltZ}

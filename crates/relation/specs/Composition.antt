@@ -1,4 +1,4 @@
--- Document 01, "The thirteen relations": converse and composition. `Composed` is the meaning of the table; proofs/TableLaws.antt shows that they agree. Assumes nothing.
+-- Rules 2.3 and 2.4: converse and composition. `Composed` is the meaning of the table; proofs/TableLaws.antt shows that they agree.
 use mathlib.Core.List.{List, [], _∷_}
 use Prim.Native.Nat.{ℕ, _^_}
 use lib.ListN.{getD}

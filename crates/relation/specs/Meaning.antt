@@ -1,4 +1,4 @@
--- Document 01, "The thirteen relations": what each means between two placed events, over all whole numbers. Assumes nothing.
+-- Rules 2.1: what each means between two placed events, over all whole numbers.
 use mathlib.Core.Path.{_≡_}
 use mathlib.Core.Bool.{cond}
 use mathlib.Core.List.{List, [], _∷_}

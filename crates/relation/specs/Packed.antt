@@ -1,4 +1,4 @@
--- Four sets in one number, with sixteen digits for each. Inner functions cite this; the public statements do not. Assumes nothing.
+-- Four sets in one number, with sixteen digits for each. Inner functions cite this; the public statements do not.
 use mathlib.Core.Bool.{cond}
 use mathlib.Core.Path.{_≡_}
 use Prim.Native.Nat.{ℕ, _+_, _*_, _/_, _%_, _^_, _<_}

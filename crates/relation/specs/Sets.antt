@@ -1,4 +1,4 @@
--- Document 01, "The thirteen relations": sets of relations as numbers. Relation r has the mark 2 ^ r. Assumes nothing.
+-- Rules 2.2: sets of relations as numbers. Relation r has the mark 2 ^ r.
 use mathlib.Core.Bool.{Bool, true, false, _&&_}
 use Prim.Native.Nat.{ℕ, zero, suc, _+_, _*_, _/_, _%_, _^_, _<_}
 use lib.Dec.{T, eqb}

@@ -1,4 +1,4 @@
--- The list of exchanged numbers that the converse lends. Inner functions cite this; the public statement does not. Assumes nothing.
+-- The list of exchanged numbers that the converse lends. Inner functions cite this; the public statement does not.
 use mathlib.Core.Path.{_≡_}
 use mathlib.Core.List.{List}
 use Prim.Native.Nat.{ℕ, _<_}

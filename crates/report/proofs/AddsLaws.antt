@@ -1,4 +1,4 @@
--- Texts put in one after the other. Assumes nothing.
+-- Texts put in one after the other.
 use mathlib.Core.Path.{_≡_, refl, _∙_, ap, subst}
 use mathlib.Core.List.{List, [], _∷_, _++_}
 use Prim.Native.Nat.{ℕ, suc, _+_, _<_}

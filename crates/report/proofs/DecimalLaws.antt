@@ -1,4 +1,4 @@
--- A number in decimal reads as the number, and has no leading zero. Assumes nothing.
+-- A number in decimal reads as the number, and has no leading zero.
 use mathlib.Core.Path.{_≡_, refl, sym, _∙_, ap}
 use mathlib.Core.Bool.{true, false}
 use mathlib.Core.List.{List, [], _∷_, _++_}

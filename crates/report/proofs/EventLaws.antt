@@ -1,4 +1,4 @@
--- The lines of the events, put in one after the other. Assumes nothing.
+-- The lines of the events, put in one after the other.
 use mathlib.Core.Path.{_≡_, _∙_, ap}
 use mathlib.Core.List.{List, []}
 use Prim.Native.Nat.{ℕ, _+_, _*_}

@@ -1,4 +1,4 @@
--- Worked lines, and sheets that are refused, computed from the definitions. Assumes nothing.
+-- Worked lines, and sheets that are refused, computed from the definitions.
 use mathlib.Core.Path.{_≡_, refl}
 use mathlib.Core.List.{List, [], _∷_, map}
 use Prim.Native.Nat.{ℕ}

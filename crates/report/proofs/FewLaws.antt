@@ -1,4 +1,4 @@
--- No text of `place` or `triage` is longer than the rooms of the programs. Assumes nothing.
+-- No text of `place` or `triage` is longer than the rooms of the programs.
 use mathlib.Core.Path.{_≡_, refl}
 use mathlib.Core.List.{List, [], _∷_}
 use Prim.Native.Nat.{ℕ, zero, suc, _+_, _*_, _^_, _≤_, _<_}

@@ -1,4 +1,4 @@
--- What the search answers of an accepted grid, as text. Assumes nothing.
+-- What the search answers of an accepted grid, as text.
 use mathlib.Core.Path.{_≡_, ap}
 use mathlib.Core.Bool.{Bool, true, false}
 use mathlib.Core.List.{List, _++_}

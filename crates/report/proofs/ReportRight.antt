@@ -1,5 +1,5 @@
 -- What the two statements come to: any two outcomes are equal, a room that is long enough has the text whole, and what the
--- printed answers mean for the sheet. Assumes nothing.
+-- printed answers mean for the sheet.
 use mathlib.Core.Path.{_≡_, refl, sym, _∙_}
 use mathlib.Core.Logic.{_↔_}
 use mathlib.Core.List.{List, [], append-nil}

@@ -1,4 +1,4 @@
--- Document 01, "Programs": what `place` and `triage` print for a sheet, with an allowance. Assumes nothing.
+-- Rules 8: what `place` and `triage` print for a sheet, with an allowance.
 use mathlib.Core.Path.{_≡_}
 use mathlib.Core.List.{List, [], _∷_, _++_}
 use Prim.Native.Nat.{ℕ, zero, suc, _+_, _*_}

@@ -1,4 +1,4 @@
--- What the writers inside say of their steps. A reader of the public statements need not read this. Assumes nothing.
+-- What the writers inside say of their steps. A reader of the public statements need not read this.
 use mathlib.Core.Path.{_≡_}
 use mathlib.Core.Bool.{Bool, true, false}
 use mathlib.Core.List.{List, [], _∷_}

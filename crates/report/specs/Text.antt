@@ -1,4 +1,4 @@
--- Document 01, "Programs": fields parted by one space, lines ended by LF, decimal numbers without leading zeros. Assumes nothing.
+-- Rules 8: fields parted by one space, lines ended by LF, decimal numbers without leading zeros.
 use mathlib.Core.Bool.{true, false}
 use mathlib.Core.List.{List, [], _∷_, _++_}
 use Prim.Native.Nat.{ℕ, zero, suc, _+_, _/_, _%_}

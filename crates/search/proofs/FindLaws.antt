@@ -1,4 +1,4 @@
--- From the code's answers to the public statement. Assumes nothing.
+-- From the code's answers to the public statement.
 use mathlib.Core.Path.{_≡_, refl, sym, ap, subst, _∙_}
 use mathlib.Core.Logic.{_⊎_, inl, inr}
 use mathlib.Core.Bool.{Bool, true, false, cond}

@@ -1,4 +1,4 @@
--- What the code sees at one cell, as steps of the rule. Assumes nothing.
+-- What the code sees at one cell, as steps of the rule.
 use mathlib.Core.Path.{_≡_, refl, sym, ap, ap₂, subst, _∙_}
 use mathlib.Core.Bool.{Bool, true, false}
 use mathlib.Core.Logic.{⊎-elim}

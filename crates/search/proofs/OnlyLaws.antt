@@ -1,4 +1,4 @@
--- The meaning of "placed" determines the room: two lists of numbers that are the first placing of one grid are equal. Assumes nothing.
+-- The meaning of "placed" determines the room: two lists of numbers that are the first placing of one grid are equal.
 use mathlib.Core.Path.{_≡_, refl, sym, ap, _∙_, subst}
 use mathlib.Core.List.{List}
 use Prim.Native.Nat.{ℕ, _+_, _*_, _/_, _%_, _^_, _<_}

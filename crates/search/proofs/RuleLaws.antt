@@ -1,4 +1,4 @@
--- The cells in order, and how the search goes on from one relation to the next. Assumes nothing.
+-- The cells in order, and how the search goes on from one relation to the next.
 use mathlib.Core.Path.{_≡_, refl, sym, ap, ap₂, subst, _∙_}
 use mathlib.Core.Bool.{Bool, true, false}
 use mathlib.Core.Logic.{⊎-elim}

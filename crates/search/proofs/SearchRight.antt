@@ -1,4 +1,4 @@
--- What the answers of the search mean for the given grid. Assumes nothing.
+-- What the answers of the search mean for the given grid.
 use mathlib.Core.Path.{_≡_, refl, sym, subst, _∙_}
 use mathlib.Core.Bool.{Bool, true, false}
 use mathlib.Core.Logic.{inl}

@@ -1,4 +1,4 @@
--- A try of the search keeps the laws that the theory of searching asks of a closing. Assumes nothing.
+-- A try of the search keeps the laws that the theory of searching asks of a closing.
 use mathlib.Core.Path.{_≡_, refl, sym, ap, subst, _∙_}
 use mathlib.Core.Bool.{true}
 use mathlib.Core.Logic.{_⊎_, inl, inr, ⊎-elim}

@@ -1,4 +1,4 @@
--- Document 01, "Looking for a placing" and "What comes back": the answer and the room afterwards, for every input. Assumes nothing.
+-- Rules 5.2 and 7: the answer and the room afterwards, for every input.
 use mathlib.Core.Path.{_≡_}
 use mathlib.Core.Bool.{cond}
 use mathlib.Core.List.{List}
@@ -19,7 +19,7 @@ use Rattle.search.specs.Rule.{searchOf}
 use Rattle.search.specs.declared.PlaceAnswer.{PlaceAnswer}
 use Rattle.search.specs.declared.PlaceAnswer.the-variants.{Placed, None, GaveUp, Refused}
 
--- document 01's answers, each with its tries
+-- the answers, each with its tries
 pub data Said : Type 0 where
   saidPlaced : ℕ → Said
   saidNone : ℕ → Said

@@ -1,4 +1,4 @@
--- Document 01, "Looking for a placing": the search of an accepted grid. proofs/SearchRight.antt shows what its answers mean. Assumes nothing.
+-- Rules 5.1: the search of an accepted grid. proofs/SearchRight.antt shows what its answers mean.
 use mathlib.Core.Bool.{Bool}
 use mathlib.Core.List.{List}
 use Prim.Native.Nat.{ℕ, _^_}

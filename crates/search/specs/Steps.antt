@@ -1,4 +1,4 @@
--- The search from one cell on, and where the code stands. Inner functions cite this; the public statement does not. Assumes nothing.
+-- The search from one cell on, and where the code stands. Inner functions cite this; the public statement does not.
 use mathlib.Core.Path.{_≡_}
 use mathlib.Core.Bool.{true, cond}
 use mathlib.Core.List.{List}

@@ -1,4 +1,4 @@
--- Laws of the bodies: a line by itself, a line of an event's body, and the reading of all bodies. Assumes nothing.
+-- Laws of the bodies: a line by itself, a line of an event's body, and the reading of all bodies.
 use mathlib.Core.Path.{_≡_, sym, _∙_}
 use mathlib.Core.Bool.{Bool, true, false, cond}
 use mathlib.Core.List.{List, [], _∷_, _++_}

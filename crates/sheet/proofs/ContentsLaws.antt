@@ -1,4 +1,4 @@
--- Laws of the contents: a line by itself, a line after others, and the table that keeps them. Assumes nothing.
+-- Laws of the contents: a line by itself, a line after others, and the table that keeps them.
 use mathlib.Core.Path.{_≡_, refl, sym, _∙_, ap}
 use mathlib.Core.Bool.{Bool, true, false, cond}
 use mathlib.Core.List.{List, [], _∷_, _++_}

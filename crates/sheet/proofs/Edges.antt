@@ -1,4 +1,4 @@
--- Both sides of the limits on a sheet, computed from the definitions: the refusals' numbers, 0 for none. Assumes nothing.
+-- Both sides of the limits on a sheet, computed from the definitions: the refusals' numbers, 0 for none.
 use mathlib.Core.Path.{_≡_, refl}
 use mathlib.Core.List.{List, [], _∷_}
 use Prim.Native.Nat.{ℕ, suc, _≤_}

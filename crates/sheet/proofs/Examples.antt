@@ -1,4 +1,4 @@
--- Worked sheets, computed from the definition. Assumes nothing.
+-- Worked sheets, computed from the definition.
 use mathlib.Core.Path.{_≡_, refl}
 use mathlib.Core.List.{List, [], _∷_, map}
 use Prim.Native.Nat.{ℕ}
@@ -22,7 +22,7 @@ named ns cs sts = accepted (map bytes ns) cs sts
 
 abbrev worked : List Worked
 worked =
-    -- the sheet of document 01; no events; one event; a repeated word adds nothing
+    -- the sheet of the manual; no events; one event; a repeated word adds nothing
     says "3\nmill 0\nflood 1\nwedding 1\nd mill\nb,m flood\n" (named ("mill" ∷ "flood" ∷ "wedding" ∷ []) (0 ∷ 1 ∷ 1 ∷ []) (st 1 256 0 ∷ st 2 5 1 ∷ []))
     ∷ says "0\n" (named [] [] [])
     ∷ says "1\na 0\n" (named ("a" ∷ []) (0 ∷ []) [])

@@ -1,4 +1,4 @@
--- Every statement of an accepted sheet is about two different events of the sheet, and there are at most 32. Assumes nothing.
+-- Every statement of an accepted sheet is about two different events of the sheet, and there are at most 32.
 use mathlib.Core.Path.{_≡_, refl, sym, ap, subst}
 use mathlib.Core.Bool.{Bool, true, false, cond, not}
 use mathlib.Core.List.{List, [], _∷_, _++_}

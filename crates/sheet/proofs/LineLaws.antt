@@ -1,4 +1,4 @@
--- Laws of a sheet's lines: where they begin and end, and the fault of the next one. Assumes nothing.
+-- Laws of a sheet's lines: where they begin and end, and the fault of the next one.
 use mathlib.Core.Path.{_≡_, refl, sym, _∙_, ap}
 use mathlib.Core.List.{List, [], _∷_, _++_}
 use Prim.Native.Nat.{ℕ, _+_, _-_, _≤_, _<_}

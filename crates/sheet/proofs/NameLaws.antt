@@ -1,5 +1,5 @@
 -- What every line of the contents says of its name holds of each name of an accepted sheet. So a name stands where its part
--- is said to start, and has at most 16 bytes. Assumes nothing.
+-- is said to start, and has at most 16 bytes.
 use mathlib.Core.Path.{_≡_, refl, sym, _∙_, ap, subst}
 use mathlib.Core.Bool.{Bool, true, false, cond, not, _&&_}
 use mathlib.Core.List.{List, [], _∷_, _++_}

@@ -1,4 +1,4 @@
--- A refusal of a sheet has a number of at most 12, and the line that it carries is not far beyond the sheet. Assumes nothing.
+-- A refusal of a sheet has a number of at most 12, and the line that it carries is not far beyond the sheet.
 use mathlib.Core.Path.{_≡_, refl}
 use mathlib.Core.Bool.{Bool, true, false, cond, not}
 use mathlib.Core.List.{List, [], _∷_, _++_}

@@ -1,4 +1,4 @@
--- Laws of the whole sheet: its first line, the reading of the rest, and what the two functions hand back. Assumes nothing.
+-- Laws of the whole sheet: its first line, the reading of the rest, and what the two functions hand back.
 use mathlib.Core.Path.{_≡_, sym, _∙_, ap, subst}
 use mathlib.Core.Bool.{true, false}
 use mathlib.Core.List.{List, []}

@@ -1,5 +1,5 @@
 -- What the statements of the two functions come to: the grid handed out is accepted, and any two outcomes are equal.
--- NameLaws.antt shows that a name's part is the name. Assumes nothing.
+-- NameLaws.antt shows that a name's part is the name.
 use mathlib.Core.Path.{_≡_, refl, sym, _∙_, ap, ap₂, subst}
 use mathlib.Core.Bool.{Bool, true, false, cond}
 use mathlib.Core.List.{List, _++_}

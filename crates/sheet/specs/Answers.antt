@@ -1,4 +1,4 @@
--- Document 01, "Sheets" and "What comes back": what the two functions on sheets hand back. Assumes nothing.
+-- Rules 6 and 7: what the two functions on sheets hand back.
 use mathlib.Core.Path.{_≡_}
 use mathlib.Core.Bool.{cond}
 use mathlib.Core.List.{List, [], _∷_, _++_}

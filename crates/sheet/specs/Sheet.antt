@@ -1,5 +1,5 @@
--- Document 01, "Sheets" and "What comes back": what a sheet says, or the refusal and the line of its first faulty line.
--- The words are in `words`, names and decimal numbers in `text`. Assumes nothing.
+-- Rules 6.1 and 7.2: what a sheet says, or the refusal and the line of its first faulty line.
+-- The words are in `words`, names and decimal numbers in `text`.
 use mathlib.Core.Bool.{Bool, cond, not, _&&_}
 use mathlib.Core.List.{List, [], _∷_, _++_}
 use Prim.Native.Nat.{ℕ, zero, suc}
@@ -138,6 +138,6 @@ contents known (suc k) ns cs ps line =
 abbrev pub first : List Word → List (List ℕ) → Outcome
 first known ps = orRefused (lineFault firstFault ps) 1 (contents known (value (next ps)) [] [] (drop 1 ps) 2)
 
--- 8 is looked for before all lines; the words are document 01's
+-- 8 is looked for before all lines; the words are those of Rules 6.2
 unfoldable pub sheet : List ℕ → Outcome
 sheet s = cond (ltb mostBytes (length s)) (refused 8 0) (first words (parts s))

@@ -1,5 +1,5 @@
 -- What the inner functions of the sheet reader say of their steps. A reader of the public statements need not read this.
--- `known` are the words there are. Assumes nothing.
+-- `known` are the words there are.
 use mathlib.Core.Path.{_≡_}
 use mathlib.Core.Bool.{true, false, cond}
 use mathlib.Core.List.{List, [], _∷_, _++_}

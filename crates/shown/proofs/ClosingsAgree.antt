@@ -1,4 +1,4 @@
--- Quick and plain closing of one grid leave the same cells and answer alike, unless quick closing pauses. Assumes nothing.
+-- Quick and plain closing of one grid leave the same cells and answer alike, unless quick closing pauses.
 use mathlib.Core.Path.{_≡_, subst}
 use mathlib.Core.List.{List}
 use Prim.Native.Nat.{ℕ, _≤_}

@@ -1,4 +1,4 @@
--- The limits of document 01, each on both sides, as one list: the refusals' numbers, 0 for none. Assumes nothing.
+-- The limits of the rules, each on both sides, as one list: the refusals' numbers, 0 for none.
 use mathlib.Core.Path.{_≡_}
 use mathlib.Core.List.{List, [], _∷_, _++_}
 use Prim.Native.Nat.{ℕ}

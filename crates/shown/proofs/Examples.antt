@@ -1,4 +1,4 @@
--- Document 01's worked examples, computed from the definitions. Assumes nothing.
+-- The worked examples of Rules 9, computed from the definitions.
 use mathlib.Core.Path.{_≡_, refl, ap, _∙_}
 use mathlib.Core.List.{List, [], _∷_}
 use Prim.Native.Nat.{ℕ}

@@ -1,4 +1,4 @@
--- Document 01, "Examples to show and to run": its worked examples, as one list. Assumes nothing.
+-- Rules 9: the worked examples, as one list.
 use mathlib.Core.List.{List, [], _∷_}
 use Prim.Native.Nat.{ℕ}
 use lib.ListN.{length}
@@ -30,7 +30,7 @@ abbrev pub closingOf : Outcome → ℕ → ℕ → Shown
 closingOf (accepted ns cs sts) i j = closing (length ns) (gridOf (length ns) sts) i j
 closingOf (refused q line) i j = other
 
--- document 01's sheet
+-- the example sheet
 abbrev pub mill : List ℕ
 mill = bytes "3\nmill 0\nflood 1\nwedding 1\nd mill\nb,m flood\n"
 

@@ -1,5 +1,5 @@
 -- The grid of a list of statements: the start, what a cut leaves of each cell, that the grid is accepted by every function on grids,
--- and that it stands in the front of a longer room. Assumes nothing.
+-- and that it stands in the front of a longer room.
 use mathlib.Core.Path.{_≡_, refl, sym, _∙_, ap}
 use mathlib.Core.Bool.{cond}
 use mathlib.Core.List.{List, [], _∷_, _++_}

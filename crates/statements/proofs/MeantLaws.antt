@@ -1,4 +1,4 @@
--- A placing meets the grid of a list of statements exactly if it meets each statement. Assumes nothing.
+-- A placing meets the grid of a list of statements exactly if it meets each statement.
 use mathlib.Core.Path.{sym, subst}
 use mathlib.Core.Logic.{_↔_}
 use mathlib.Core.List.{List, [], _∷_}

@@ -1,5 +1,5 @@
 -- Each statement only cuts, and the grid of a list of statements depends only on which statements there are: neither their order
--- nor how often one stands there matters. For each cell is the largest set inside what the statements say of it. Assumes nothing.
+-- nor how often one stands there matters. For each cell is the largest set inside what the statements say of it.
 use mathlib.Core.Path.{_≡_, refl, sym, _∙_, ap, subst}
 use mathlib.Core.Logic.{⊎-elim, inl, inr}
 use mathlib.Core.List.{List, [], _∷_}

@@ -1,4 +1,4 @@
--- Laws of statements: one by its parts, and lists of statements that fit. Assumes nothing.
+-- Laws of statements: one by its parts, and lists of statements that fit.
 use mathlib.Core.Path.{_≡_}
 use mathlib.Core.List.{List, [], _∷_, _++_}
 use Prim.Native.Nat.{ℕ}

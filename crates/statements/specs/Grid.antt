@@ -1,4 +1,4 @@
--- Document 01, "Sheets": the grid of a list of statements, and when a placing meets them. Assumes nothing.
+-- Rules 6.3: the grid of a list of statements, and when a placing meets them.
 use mathlib.Core.Bool.{cond}
 use mathlib.Core.List.{List, [], _∷_}
 use Prim.Native.Nat.{ℕ, _*_, _/_, _%_, _<_}

@@ -1,4 +1,4 @@
--- Document 01, "Sheets": what a statement is, and which statements are about two different events of n. Assumes nothing.
+-- Rules 6.1: what a statement is, and which statements are about two different events of n.
 use mathlib.Core.Path.{_≡_}
 use mathlib.Core.Logic.{_⊎_}
 use mathlib.Core.List.{List, [], _∷_}

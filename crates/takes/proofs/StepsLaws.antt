@@ -1,4 +1,4 @@
--- From the code's answer to the step that it shows. Assumes nothing.
+-- From the code's answer to the step that it shows.
 use mathlib.Core.Path.{_≡_, refl, _∙_, sym, ap, subst}
 use mathlib.Core.List.{List}
 use Prim.Native.Nat.{ℕ, zero, suc, _+_, _*_, _/_, _%_, _≤_, _<_}

@@ -1,4 +1,4 @@
--- Joining and leaving the waiting list that ring and flags hold. Assumes nothing.
+-- Joining and leaving the waiting list that ring and flags hold.
 use mathlib.Core.Path.{_≡_, refl, ap, ap₂, sym, _∙_}
 use mathlib.Core.List.{List, [], _∷_, _++_}
 use Prim.Native.Nat.{ℕ, zero, suc, _+_, _-_, _%_, _≤_, _<_}

@@ -1,4 +1,4 @@
--- How the code's answer, grid and waiting list show a step of quick closing. Inner functions cite this; the public statements do not. Assumes nothing.
+-- How the code's answer, grid and waiting list show a step of quick closing. Inner functions cite this; the public statements do not.
 use mathlib.Core.Path.{_≡_}
 use mathlib.Core.List.{List}
 use Prim.Native.Nat.{ℕ, _*_, _/_, _≤_, _<_}

@@ -1,4 +1,4 @@
--- How a ring of 1,024 places and 1,024 flags hold a waiting list. Inner functions cite this; the public statements do not. Assumes nothing.
+-- How a ring of 1,024 places and 1,024 flags hold a waiting list. Inner functions cite this; the public statements do not.
 use mathlib.Core.Path.{_≡_}
 use mathlib.Core.List.{List, [], _∷_}
 use Prim.Native.Nat.{ℕ, zero, suc, _+_, _%_, _≤_, _<_}

@@ -1,4 +1,4 @@
--- Both sides of the limits on a name, computed from the definition: 9 where it breaks the form, 0 where not. Assumes nothing.
+-- Both sides of the limits on a name, computed from the definition: 9 where it breaks the form, 0 where not.
 use mathlib.Core.Path.{_≡_, refl}
 use mathlib.Core.Bool.{cond}
 use mathlib.Core.List.{List, [], _∷_}

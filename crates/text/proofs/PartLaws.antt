@@ -1,4 +1,4 @@
--- Laws of the parts of a text. Assumes nothing.
+-- Laws of the parts of a text.
 use Prim.Native.Nat.{ℕ, zero, suc, _+_, _-_, _≤_, _<_}
 use mathlib.Core.Path.{_≡_, refl, sym}
 use mathlib.Core.Bool.{Bool, true, false, cond}

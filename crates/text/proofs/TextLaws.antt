@@ -1,4 +1,4 @@
--- Laws of tests over a text, of decimal numbers, and of names. Assumes nothing.
+-- Laws of tests over a text, of decimal numbers, and of names.
 use Prim.Native.Nat.{ℕ, suc, _+_, _*_, _-_, _≤_, _<_, min}
 use mathlib.Core.Path.{_≡_, refl, ap}
 use mathlib.Core.Bool.{Bool, true, false, cond, not, _&&_}

@@ -1,4 +1,4 @@
--- Document 01, "Sheets": what a name is, and when two names are the same. Assumes nothing.
+-- Rules 6.1: what a name is, and when two names are the same.
 use mathlib.Core.Bool.{Bool, _&&_, _||_}
 use mathlib.Core.List.{List}
 use Prim.Native.Nat.{ℕ}

@@ -1,4 +1,4 @@
--- What the functions on text say of their steps. A reader of what a sheet means need not read this. Assumes nothing.
+-- What the functions on text say of their steps. A reader of what a sheet means need not read this.
 use mathlib.Core.Path.{_≡_}
 use mathlib.Core.Bool.{false, cond}
 use mathlib.Core.List.{List, [], _∷_}

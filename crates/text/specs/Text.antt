@@ -1,4 +1,4 @@
--- Document 01, "Sheets": bytes as text, the parts between a byte, decimal numbers without leading zeros. Assumes nothing.
+-- Rules 6.1: bytes as text, the parts between a byte, decimal numbers without leading zeros.
 use mathlib.Core.Bool.{Bool, true, false, cond, not, _&&_}
 use mathlib.Core.List.{List, [], _∷_}
 use Prim.Native.Nat.{ℕ, _+_, _*_, _-_}

@@ -1,4 +1,4 @@
--- Closing again after a further cut: the closing of a closing that was cut is the closing of the whole. Assumes nothing.
+-- Closing again after a further cut: the closing of a closing that was cut is the closing of the whole.
 use mathlib.Core.Path.{_≡_, sym, subst}
 use Prim.Native.Nat.{ℕ, _<_}
 use Rattle.theory.specs.Calculus.{Calculus, Sub}

@@ -1,4 +1,4 @@
--- The thirteen relations keep every law that closing uses. Assumes nothing.
+-- The thirteen relations keep every law that closing uses.
 use mathlib.Core.Path.{_≡_, refl, ap, _∙_}
 use mathlib.Core.List.{List}
 use Prim.Native.Nat.{ℕ, _<_}

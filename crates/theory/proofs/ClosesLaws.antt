@@ -1,4 +1,4 @@
--- A run of takes that does not pause says what closing leaves: from all pairs, and from the one pair that was cut. Assumes nothing.
+-- A run of takes that does not pause says what closing leaves: from all pairs, and from the one pair that was cut.
 use mathlib.Core.Path.{_≡_, refl, sym, _∙_, ap, subst}
 use mathlib.Core.List.{List, [], _∷_}
 use Prim.Native.Nat.{ℕ, _*_, _<_}

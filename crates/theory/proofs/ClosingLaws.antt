@@ -1,4 +1,4 @@
--- What any run of cuts keeps, and that the largest closed grid inside is the only one. Assumes nothing.
+-- What any run of cuts keeps, and that the largest closed grid inside is the only one.
 use mathlib.Core.Path.{_≡_, ap, sym, _∙_, subst, subst₃}
 use Prim.Native.Nat.{ℕ, _<_}
 use native.Mathlib.Decide.{ℕ-discrete}

@@ -1,4 +1,4 @@
--- A take, cut by cut: what is left of it, done from here, is the whole. Assumes nothing.
+-- A take, cut by cut: what is left of it, done from here, is the whole.
 use mathlib.Core.Path.{_≡_, refl, ap, sym, _∙_, subst}
 use mathlib.Core.List.{List}
 use Prim.Native.Nat.{ℕ, zero, suc, _+_, _-_, _*_, _/_, _%_, _<_}

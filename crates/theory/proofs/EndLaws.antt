@@ -1,4 +1,4 @@
--- How a closing of a given grid ends, by its meaning alone; any two ends that do not pause are the same. Assumes nothing.
+-- How a closing of a given grid ends, by its meaning alone; any two ends that do not pause are the same.
 use mathlib.Core.Path.{_≡_, refl, sym, subst}
 use mathlib.Core.List.{List}
 use Prim.Native.Nat.{ℕ, _*_, _<_}

@@ -1,4 +1,4 @@
--- A fair grid: closing starts from one, and every cut leaves one. Assumes nothing.
+-- A fair grid: closing starts from one, and every cut leaves one.
 use mathlib.Core.Path.{_≡_, ap, sym, _∙_}
 use mathlib.Core.List.{List}
 use Prim.Native.Nat.{ℕ, _≤_, _<_}

@@ -1,4 +1,4 @@
--- "Comes no later" is an order of scenarios: of two one comes no later, and two of which neither comes later are the same. Assumes nothing.
+-- "Comes no later" is an order of scenarios: of two one comes no later, and two of which neither comes later are the same.
 use mathlib.Core.Path.{_≡_, refl, sym, _∙_}
 use mathlib.Core.Logic.{_⊎_, inl, inr, ⊎-elim}
 use mathlib.Core.List.{List, [], _∷_}

@@ -1,4 +1,4 @@
--- An accepted grid is what the theory of closing starts from. Assumes nothing.
+-- An accepted grid is what the theory of closing starts from.
 use mathlib.Core.Path.{_≡_, ap, _∙_}
 use mathlib.Core.Bool.{true, false}
 use mathlib.Core.List.{List}

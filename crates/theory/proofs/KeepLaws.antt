@@ -1,4 +1,4 @@
--- What every cut keeps, on lists: the largest closed grid inside, the mirror, the diagonal, no empty cell. Assumes nothing.
+-- What every cut keeps, on lists: the largest closed grid inside, the mirror, the diagonal, no empty cell.
 use mathlib.Core.Path.{_≡_, ap, sym, _∙_}
 use mathlib.Core.List.{List}
 use Prim.Native.Nat.{ℕ, _*_, _≤_, _<_}

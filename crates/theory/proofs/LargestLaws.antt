@@ -1,5 +1,5 @@
 -- The closing that is said by its meaning is closed, lies inside the given grid and is the largest such; so every other way to the largest
--- closed grid inside leads to it. Assumes nothing.
+-- closed grid inside leads to it.
 use mathlib.Core.Path.{_≡_, refl, sym, ap, subst, _∙_}
 use mathlib.Core.Bool.{Bool, true, false, not, _&&_}
 use mathlib.Core.List.{List, [], _∷_}

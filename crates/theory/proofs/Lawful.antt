@@ -1,4 +1,4 @@
--- The laws of a calculus that closing uses, and no others. Assumes nothing.
+-- The laws of a calculus that closing uses, and no others.
 use mathlib.Core.Path.{_≡_}
 use Prim.Native.Nat.{ℕ, _<_}
 use Rattle.relation.specs.Sets.{Inside}

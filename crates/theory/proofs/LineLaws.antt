@@ -1,4 +1,4 @@
--- The waiting list: joining loses nobody and brings in one; a pair and its number. Assumes nothing.
+-- The waiting list: joining loses nobody and brings in one; a pair and its number.
 use mathlib.Core.Path.{_≡_, refl, ap, ap₂, sym, _∙_}
 use mathlib.Core.List.{List, [], _∷_, _++_}
 use mathlib.Core.Bool.{Bool}

@@ -1,4 +1,4 @@
--- The cut of two sets, and how many members a set has. Assumes nothing.
+-- The cut of two sets, and how many members a set has.
 use mathlib.Core.Path.{_≡_, refl, ap, sym, _∙_}
 use Prim.Native.Nat.{ℕ, _+_, _/_, _%_, _≤_, _<_, min}
 use native.Mathlib.Omega.{arith}

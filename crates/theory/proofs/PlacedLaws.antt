@@ -1,4 +1,4 @@
--- The scenario of any placing is a closed grid, so closing removes nothing that a placing uses. Assumes nothing.
+-- The scenario of any placing is a closed grid, so closing removes nothing that a placing uses.
 use mathlib.Core.Path.{_≡_, sym, ap, _∙_, subst}
 use mathlib.Core.List.{List}
 use Prim.Native.Nat.{ℕ, _^_, _<_}

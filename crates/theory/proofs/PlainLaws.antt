@@ -1,4 +1,4 @@
--- Plain closing: cuts in any order, and a sweep that changes nothing. Assumes nothing.
+-- Plain closing: cuts in any order, and a sweep that changes nothing.
 use mathlib.Core.Path.{_≡_, refl, sym, _∙_, subst}
 use mathlib.Core.Logic.{_⊎_, inl, inr, ⊎-elim}
 use mathlib.Core.List.{List}

@@ -1,4 +1,4 @@
--- How a cut and a turn go, case by case, and how many takes a run makes at most. Assumes nothing.
+-- How a cut and a turn go, case by case, and how many takes a run makes at most.
 use mathlib.Core.Path.{_≡_, refl, ap}
 use mathlib.Core.List.{List, [], _∷_}
 use Prim.Native.Nat.{ℕ, zero, suc, _+_, _≤_}

@@ -1,4 +1,4 @@
--- What quick closing comes to on an accepted grid, whatever the limit. Assumes nothing.
+-- What quick closing comes to on an accepted grid, whatever the limit.
 use mathlib.Core.Path.{_≡_}
 use mathlib.Core.List.{List}
 use Prim.Native.Nat.{ℕ, _+_, _*_, _≤_, _<_}

@@ -1,4 +1,4 @@
--- What a search's answers mean, for any closing that keeps a few laws. Assumes nothing.
+-- What a search's answers mean, for any closing that keeps a few laws.
 use mathlib.Core.Path.{_≡_, refl, sym, subst, _∙_}
 use mathlib.Core.Bool.{Bool, true, false}
 use mathlib.Core.Logic.{⊎-elim, _⊎_, inl, inr}

@@ -1,4 +1,4 @@
--- When nothing waits the grid is closed: what each cut, turn, take and run keeps. Assumes nothing.
+-- When nothing waits the grid is closed: what each cut, turn, take and run keeps.
 use mathlib.Core.Path.{_≡_, sym, _∙_}
 use mathlib.Core.Logic.{_⊎_, inl, inr, ⊎-elim}
 use mathlib.Core.List.{List, [], _∷_}

@@ -1,4 +1,4 @@
--- The list that quick closing starts with holds every pair, once. Assumes nothing.
+-- The list that quick closing starts with holds every pair, once.
 use mathlib.Core.Path.{_≡_, refl}
 use mathlib.Core.Logic.{_⊎_, inl, inr, ⊎-elim}
 use mathlib.Core.List.{List, [], _∷_, _++_, append-nil, append-assoc}

@@ -1,4 +1,4 @@
--- What is left of a take and of a run: done from here, it is the whole. Assumes nothing.
+-- What is left of a take and of a run: done from here, it is the whole.
 use mathlib.Core.Path.{_≡_, refl, ap, _∙_}
 use mathlib.Core.List.{List, [], _∷_}
 use Prim.Native.Nat.{ℕ, zero, suc, _+_, _-_, _/_, _%_, _≤_, _<_}

@@ -1,4 +1,4 @@
--- The takes are never more than 13 n (n - 1) / 2: each take uses one waiting pair, and a pair that joins has lost a relation. Assumes nothing.
+-- The takes are never more than 13 n (n - 1) / 2: each take uses one waiting pair, and a pair that joins has lost a relation.
 use mathlib.Core.Path.{_≡_, ap, sym, _∙_}
 use mathlib.Core.List.{List, [], _∷_}
 use Prim.Native.Nat.{ℕ, zero, suc, _+_, _-_, _*_, _/_, _%_, _≤_, _<_}

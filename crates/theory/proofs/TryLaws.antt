@@ -1,4 +1,4 @@
--- Closing again from the one pair that was cut: a closed grid in which a pair was cut, with that pair waiting alone, is settled. Assumes nothing.
+-- Closing again from the one pair that was cut: a closed grid in which a pair was cut, with that pair waiting alone, is settled.
 use mathlib.Core.Path.{_≡_, subst}
 use mathlib.Core.Logic.{inl, inr}
 use mathlib.Core.List.{List, [], _∷_}

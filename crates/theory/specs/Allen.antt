@@ -1,4 +1,4 @@
--- Document 01's calculus of the thirteen relations, the same for all events. Assumes nothing.
+-- The calculus of the thirteen relations, the same for all events.
 use lib.Bits.{bitAnd}
 use Rattle.relation.specs.Composition.{converse, compose}
 use Rattle.theory.specs.Calculus.{Calculus}

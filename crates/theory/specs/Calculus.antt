@@ -1,4 +1,4 @@
--- What a calculus of sets brings: document 01's is one, and composition may depend on the three events. Assumes nothing.
+-- What a calculus of sets brings: that of the thirteen relations is one, and composition may depend on the three events.
 use mathlib.Core.Path.{_≡_}
 use Prim.Native.Nat.{ℕ}
 

@@ -1,4 +1,4 @@
--- Document 01, "Grids": closed, inside, and the largest closed grid inside a given one, over cell functions. Assumes nothing.
+-- Rules 4.1: closed, inside, and the largest closed grid inside a given one, over cell functions.
 use Prim.Native.Nat.{ℕ, _<_}
 use Rattle.theory.specs.Calculus.{Calculus, Sub}
 

@@ -1,4 +1,4 @@
--- A take of quick closing, cut by cut: the first cut at k has the number 2 * k, the second 2 * k + 1. Inner functions cite this; the public statements do not. Assumes nothing.
+-- A take of quick closing, cut by cut: the first cut at k has the number 2 * k, the second 2 * k + 1. Inner functions cite this; the public statements do not.
 use mathlib.Core.List.{List}
 use mathlib.Core.Bool.{cond}
 use Prim.Native.Nat.{ℕ, zero, suc, _-_, _*_, _/_, _%_}

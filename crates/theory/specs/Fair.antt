@@ -1,4 +1,4 @@
--- A grid in the midst of closing, over any calculus. Inner functions cite this; the public statements do not. Assumes nothing.
+-- A grid in the midst of closing, over any calculus. Inner functions cite this; the public statements do not.
 use mathlib.Core.Path.{_≡_}
 use mathlib.Core.List.{List}
 use Prim.Native.Nat.{ℕ, _*_, _≤_, _<_}

@@ -1,5 +1,5 @@
--- Document 01, "Grids": the closing of a grid, the largest closed grid inside it, as a function. It is said by its meaning and is never worked
--- out so; proofs/LargestLaws.antt shows that it is the one grid of `Closing`. Assumes nothing.
+-- Rules 4.1: the closing of a grid, the largest closed grid inside it, as a function. It is said by its meaning and is never worked
+-- out so; proofs/LargestLaws.antt shows that it is the one grid of `Closing`.
 use mathlib.Core.List.{List, [], _∷_}
 use mathlib.Core.Bool.{Bool, not, _&&_}
 use Prim.Native.Nat.{ℕ, zero, suc, _*_}

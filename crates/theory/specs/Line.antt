@@ -1,4 +1,4 @@
--- Document 01, "Quick closing": the waiting list. A pair of events has one number, smaller event first. Assumes nothing.
+-- Rules 4.3: the waiting list. A pair of events has one number, smaller event first.
 use mathlib.Core.List.{List, [], _∷_, _++_}
 use mathlib.Core.Bool.{cond}
 use Prim.Native.Nat.{ℕ, zero, suc, _+_, _-_, _*_, _/_, _%_, _<_, min, max}

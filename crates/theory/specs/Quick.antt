@@ -1,4 +1,4 @@
--- Document 01, "Quick closing", as a step on grid and waiting list, over any calculus. Assumes nothing.
+-- Rules 4.3: quick closing, as a step on grid and waiting list, over any calculus.
 use mathlib.Core.List.{List, [], _∷_}
 use mathlib.Core.Bool.{cond}
 use Prim.Native.Nat.{ℕ, zero, suc, _/_, _%_}

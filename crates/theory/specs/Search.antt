@@ -1,4 +1,4 @@
--- Document 01, "Looking for a placing": the search over a list of pairs, for any closing. Assumes nothing.
+-- Rules 5: the search over a list of pairs, for any closing.
 use mathlib.Core.Path.{_≡_}
 use mathlib.Core.Logic.{_⊎_}
 use Prim.Native.Nat.{ℕ, zero, suc, _+_, _-_, _<_}

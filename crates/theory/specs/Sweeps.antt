@@ -1,4 +1,4 @@
--- Parts of a sweep of plain closing, over any calculus. Inner functions cite this; the public statement does not. Assumes nothing.
+-- Parts of a sweep of plain closing, over any calculus. Inner functions cite this; the public statement does not.
 use mathlib.Core.Path.{_≡_}
 use mathlib.Core.List.{List, [], _∷_}
 use mathlib.Core.Bool.{Bool, true, false}

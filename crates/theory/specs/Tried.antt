@@ -1,4 +1,4 @@
--- What the end of a run of takes leaves, where the run can't pause. Inner functions cite this; the public statements do not. Assumes nothing.
+-- What the end of a run of takes leaves, where the run can't pause. Inner functions cite this; the public statements do not.
 use Prim.Native.Nat.{ℕ}
 use Rattle.theory.specs.Quick as quick
 use Rattle.theory.specs.Search.{Tried, emptied, closed}

@@ -1,4 +1,4 @@
--- Laws of the words: what the columns of the table hold; one word of a field. Assumes nothing.
+-- Laws of the words: what the columns of the table hold; one word of a field.
 use Prim.Native.Nat.{ℕ, zero, suc, _+_, _-_, _^_, _≤_, _<_}
 use mathlib.Core.Path.{_≡_, refl, sym, ap, _∙_, subst}
 use mathlib.Core.Logic.{_↔_}

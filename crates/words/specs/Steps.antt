@@ -1,4 +1,4 @@
--- What the inner functions on words say of their answers. A reader of what a sheet means need not read this. Assumes nothing.
+-- What the inner functions on words say of their answers. A reader of what a sheet means need not read this.
 use mathlib.Core.Bool.{cond}
 use mathlib.Core.List.{List, [], _++_, map}
 use Prim.Native.Nat.{ℕ, _-_}

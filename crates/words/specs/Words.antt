@@ -1,4 +1,4 @@
--- Document 01, "Sheets": the relation words and their sets. Assumes nothing.
+-- Rules 6.2: the relation words and their sets.
 use mathlib.Core.Bool.{Bool, true, cond, not, _&&_}
 use mathlib.Core.List.{List, [], _∷_, _++_, map}
 use Prim.Native.Nat.{ℕ, suc, _^_}
