@@ -13,7 +13,7 @@ use Rattle.relation.specs.Sets.{some}
 use Rattle.relation.specs.Composition.{converse}
 use Rattle.relation.proofs.Tested.{some-yes, some-no}
 use Rattle.grid.specs.Cells.{cell}
-use Rattle.grid.proofs.CellLaws.{found}
+use Rattle.grid.proofs.CellLaws.{located}
 use Rattle.grid.specs.Accepted.{Accepted, sizeRefusal, someLarge, someNotEq, rowUnlike, someUnlike, cellRefusal, gridRefusal}
 
 -- ---- refusals 1 and 2
@@ -114,7 +114,7 @@ never-refused n g a = (
 )
   where
     at-place : (p : ℕ) → p < n * n → getD g p 0 ≤ 8191
-    at-place p h = let w = found n p h in subst (λ (q : ℕ). getD g q 0 ≤ 8191) (w .back) (a .small (p / n) (p % n) (w .row) (w .column))
+    at-place p h = let w = located n p h in subst (λ (q : ℕ). getD g q 0 ≤ 8191) (w .back) (a .small (p / n) (p % n) (w .row) (w .column))
 
     large : (p : ℕ) → p < length g → ltb 8191 (getD g p 0) ≡ false
     large p h = le-ltb 8191 (getD g p 0) (at-place p (omega (arith, a .long)))

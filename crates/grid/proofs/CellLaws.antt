@@ -124,13 +124,13 @@ cleared-empty n h = (0, 0, h, h, cell-cleared n (n * n) 0 0)
 -- ---- from a place to its cell
 
 -- the row and the column of a place
-pub record Found (n p : ℕ) : Type 0 where
+pub record Located (n p : ℕ) : Type 0 where
   pub row : p / n < n
   pub column : p % n < n
   pub back : p / n * n + p % n ≡ p
 
-pub found : (n p : ℕ) → p < n * n → Found n p
-found n p h =
+pub located : (n p : ℕ) → p < n * n → Located n p
+located n p h =
     let pos : 0 < n = pos-of n h in
     record { row = div-lt-iff-lt-mul pos .1 h; column = mod-lt p pos; back = div-add-mod' p n }
   where
@@ -145,5 +145,5 @@ same-cells n g h eg eh same = ext-getD 0 g h (eg ∙ sym eh) (λ p lt. at p (sub
   where
     at : (p : ℕ) → p < n * n → getD g p 0 ≡ getD h p 0
     at p lt =
-        let f : Found n p = found n p lt in
+        let f : Located n p = located n p lt in
         subst (λ (x : ℕ). getD g x 0 ≡ getD h x 0) (f .back) (same (p / n) (p % n) (f .row) (f .column))

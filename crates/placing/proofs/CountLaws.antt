@@ -9,7 +9,7 @@ use native.Mathlib.Numerals.{add-one}
 use native.Mathlib.Omega.{arith}
 use lib.Arith.{le-zero}
 use lib.Dec.{T, ltb}
-use Rattle.relation.specs.Sets.{digit, some}
+use Rattle.relation.specs.Sets.{oneIf, some}
 use Rattle.relation.proofs.Tested.{both-ways, some-at, some-in}
 use Rattle.relation.proofs.Rank.{In, here, there, Weak, rank, rank-keeps, digit-le-one}
 use Rattle.placing.specs.Settling.{count}
@@ -26,7 +26,7 @@ pub count-same : (k : ℕ) (s t : ℕ → Bool) → ((i : ℕ) → i < k → s i
 unfolding count
 count-same zero s t h = refl
 count-same (suc k) s t h =
-    ap₂ (λ (x : Bool) (y : ℕ). digit x + y) (h k (omega arith)) (count-same k s t (λ i l. h i (omega arith)))
+    ap₂ (λ (x : Bool) (y : ℕ). oneIf x + y) (h k (omega arith)) (count-same k s t (λ i l. h i (omega arith)))
 
 -- ---- one test, counted further and further
 
@@ -35,14 +35,14 @@ module _ (t : ℕ → Bool) where
   unfolding count
   count-none = refl
 
-  count-more : (k : ℕ) → count (k + 1) t ≡ digit (t k) + count k t
+  count-more : (k : ℕ) → count (k + 1) t ≡ oneIf (t k) + count k t
   unfolding count
   count-more k = rw add-one
 
   -- one turn of a loop that counts
-  pub count-step : (k found next : ℕ) (b x : Bool) → found ≡ count k t → b ≡ t k → b ≡ x → next ≡ found + digit x → next ≡ count (k + 1) t
+  pub count-step : (k found next : ℕ) (b x : Bool) → found ≡ count k t → b ≡ t k → b ≡ x → next ≡ found + oneIf x → next ≡ count (k + 1) t
   count-step k found next b x e f g h =
-      let q : digit x ≡ digit (t k) = ap digit (sym g ∙ f) in
+      let q : oneIf x ≡ oneIf (t k) = ap oneIf (sym g ∙ f) in
       omega (arith, count-more k)
 
   pub count-le : (k : ℕ) → count k t ≤ k
@@ -55,14 +55,14 @@ module _ (t : ℕ → Bool) where
   count-up v zero h = le-of-eq (ap (λ (k : ℕ). count k t) (le-zero h))
   count-up v (suc w) h = go (ℕ-discrete v (suc w)) (count-up v w)
     where
-      go : Dec (v ≡ suc w) → (v ≤ w → count v t ≤ count w t) → count v t ≤ digit (t w) + count w t
+      go : Dec (v ≡ suc w) → (v ≤ w → count v t ≤ count w t) → count v t ≤ oneIf (t w) + count w t
       go (yes e) f = le-of-eq (ap (λ (k : ℕ). count k t) e)
       go (no n) f = omega (arith, f (omega arith))
 
   -- past one that passes the count is more
   pub count-less : (v w : ℕ) → t v ≡ true → v < w → count v t < count w t
   count-less v w e h =
-      let d : digit (t v) ≡ 1 = ap digit e in
+      let d : oneIf (t v) ≡ 1 = ap oneIf e in
       omega (arith, count-more v, count-up (v + 1) w (omega arith))
 
   -- each smaller number is the count at one that passes
@@ -71,7 +71,7 @@ module _ (t : ℕ → Bool) where
   count-onto zero w h = absurd (not-suc-le-zero h)
   count-onto (suc v) w h = go (t v) refl h (count-onto v w) (decLt w (count v t))
     where
-      go : (x : Bool) → t v ≡ x → w < digit x + count v t → (w < count v t → (u : ℕ) × (t u ≡ true) × (count u t ≡ w))
+      go : (x : Bool) → t v ≡ x → w < oneIf x + count v t → (w < count v t → (u : ℕ) × (t u ≡ true) × (count u t ≡ w))
           → Dec (w < count v t) → (u : ℕ) × (t u ≡ true) × (count u t ≡ w)
       go x e l f (yes p) = f p
       go true e l f (no n) = (v, e, omega arith)
@@ -96,7 +96,7 @@ module _ (lt : ℕ → ℕ → Bool) where
   count-rank : (m p : ℕ) → count m (λ q. lt q p) ≡ rank lt (upto m) p
   unfolding count rank upto
   count-rank zero p = refl
-  count-rank (suc m) p = ap (λ (x : ℕ). digit (lt m p) + x) (count-rank m p)
+  count-rank (suc m) p = ap (λ (x : ℕ). oneIf (lt m p) + x) (count-rank m p)
 
   -- counts compare as the things do
   pub count-keeps : Weak lt → (m p q : ℕ) → p < m → q < m → lt p q ≡ ltb (count m (λ z. lt z p)) (count m (λ z. lt z q))

@@ -6,7 +6,7 @@ use native.Mathlib.Nat.{add-comm, le-antisymm}
 use native.Mathlib.Omega.{arith}
 use lib.Dec.{eqb, ltb}
 use borrow.Author.Tests.{lt-ltb, le-ltb, eq-eqb, ltb-true, ltb-false, eqb-true}
-use Rattle.relation.specs.Sets.{digit}
+use Rattle.relation.specs.Sets.{oneIf}
 use Rattle.relation.proofs.Tested.{T-of, of-T, some-at, some-yes}
 use Rattle.placing.specs.Settling.{isValue, valuesBelow}
 use Rattle.placing.proofs.CountLaws.{some-same, count-same, count-none, count-step, count-le, count-up, count-less, count-onto}
@@ -21,10 +21,10 @@ module _ (f : ℕ → ℕ) (m : ℕ) where
   values-le v = count-le (isValue f m) v
 
   -- one turn of a loop that goes up
-  pub values-step : (v here next : ℕ) (b x : Bool) → here ≡ valuesBelow f m v → b ≡ isValue f m v → b ≡ x → next ≡ digit x + here
+  pub values-step : (v here next : ℕ) (b x : Bool) → here ≡ valuesBelow f m v → b ≡ isValue f m v → b ≡ x → next ≡ oneIf x + here
       → next ≡ valuesBelow f m (v + 1)
   unfolding valuesBelow
-  values-step v here next b x e h g q = count-step (isValue f m) v here next b x e h g (q ∙ add-comm (digit x) here)
+  values-step v here next b x e h g q = count-step (isValue f m) v here next b x e h g (q ∙ add-comm (oneIf x) here)
 
   values-less : (p w : ℕ) → p < m → f p < w → valuesBelow f m (f p) < valuesBelow f m w
   unfolding valuesBelow

@@ -24,7 +24,7 @@ use Rattle.grid.specs.Cells.{cell}
 use Rattle.grid.specs.Meets.{Meets}
 use Rattle.placing.specs.Placing.{at, naturalOf, MeetsAt, NoGaps}
 use Rattle.placing.specs.Checking.{someLate}
-use Rattle.placing.specs.Settling.{earlier, before, count, endsBefore, endNumber, gaplessEnd, listOf, placingOf, someMissed, settles, Settled}
+use Rattle.placing.specs.Settling.{earlier, endBefore, count, endsBefore, endNumber, gaplessEnd, listOf, placingOf, someMissed, settles, Settled}
 use Rattle.placing.proofs.CountLaws.{count-same, count-keeps, count-le}
 use Rattle.placing.proofs.GaplessLaws.{values-le, values-keep, values-onto, gapless-only}
 use Rattle.placing.proofs.EarlierLaws.{endOf, earlier-is, mark-cut}
@@ -68,7 +68,7 @@ pub placing-few : (n : ℕ) (g : List ℕ) (p : ℕ) → p < 2 * n → naturalOf
 unfolding endNumber endsBefore
 placing-few n g p h =
     let e : naturalOf (at (placingOf n g) p) ≡ endNumber n g p = ap naturalOf (placing-at n g p h) in
-    omega (arith, e, values-le (endsBefore n g) (2 * n) (endsBefore n g p), count-le (λ q. before n g q p) (2 * n))
+    omega (arith, e, values-le (endsBefore n g) (2 * n) (endsBefore n g p), count-le (λ q. endBefore n g q p) (2 * n))
 
 -- the statement determines the answer and the room
 pub settled-unique : (n : ℕ) (g : List ℕ) (room a b : List ℤ) (r s : Bool) → Settled n g room a r → Settled n g room b s → (r ≡ s) × (a ≡ b)
@@ -160,8 +160,8 @@ gives-at n v P w p h = go (p % 2) refl
 -- ---- a placing of a scenario: its cells say which ends are before which
 
 module _ (n : ℕ) (g : List ℕ) (S : Decided n g) (P : ℕ → Event) (M : Meets n g P) where
-  before-is : (p q : ℕ) → p < 2 * n → q < 2 * n → before n g p q ≡ ltZ (endAt P p) (endAt P q)
-  unfolding before
+  before-is : (p q : ℕ) → p < 2 * n → q < 2 * n → endBefore n g p q ≡ ltZ (endAt P p) (endAt P q)
+  unfolding endBefore
   before-is p q hp hq =
       let hi : p / 2 < n = omega arith in
       let hj : q / 2 < n = omega arith in
@@ -185,7 +185,7 @@ module _ (n : ℕ) (g : List ℕ) (S : Decided n g) (P : ℕ → Event) (M : Mee
 
   endsBefore-is : (p : ℕ) → p < 2 * n → count (2 * n) (λ z. ends-lt z p) ≡ endsBefore n g p
   unfolding endsBefore
-  endsBefore-is p h = count-same (2 * n) (λ z. ends-lt z p) (λ z. before n g z p) (λ z l. sym (before-is z p l h))
+  endsBefore-is p h = count-same (2 * n) (λ z. ends-lt z p) (λ z. endBefore n g z p) (λ z l. sym (before-is z p l h))
 
   -- so the numbers compare as the ends of the placing do
   number-alike : Alike n (gaplessEnd n g) (endAt P)
@@ -219,7 +219,7 @@ module _ (n : ℕ) (g : List ℕ) (S : Decided n g) (xs : List ℤ) (l : length 
   number-is p h = let k = G .counts p (omega (arith, l)) in k .1 ∙ ap (λ (z : ℤ). pos (natAbs z)) (sym (k .1))
 
   -- its comparisons are read off the grid
-  number-before : (p q : ℕ) → p < 2 * n → q < 2 * n → ltb (number p) (number q) ≡ before n g p q
+  number-before : (p q : ℕ) → p < 2 * n → q < 2 * n → ltb (number p) (number q) ≡ endBefore n g p q
   number-before p q hp hq =
       let w = gives-list n xs (M .placing) (M .places) in
       ap₂ (λ (x y : ℤ). ltZ x y) (sym (number-is p hp) ∙ gives-at n (at xs) (M .placing) w p hp) (sym (number-is q hq) ∙ gives-at n (at xs) (M .placing) w q hq)

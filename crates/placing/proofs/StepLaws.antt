@@ -8,7 +8,7 @@ use lib.ListN.{length, getD}
 use lib.IntN.{ℤ}
 use Rattle.placing.specs.Placing.{at}
 use Rattle.placing.specs.Checking.{someLate}
-use Rattle.placing.specs.Settling.{before, endsBefore, valuesBelow, endNumber, gaplessEnd, placingOf, someMissed, settles, Settled}
+use Rattle.placing.specs.Settling.{endBefore, endsBefore, valuesBelow, endNumber, gaplessEnd, placingOf, someMissed, settles, Settled}
 use Rattle.placing.specs.Steps.{mostEnds, Counts, Belows, Numbers, Copied}
 use Rattle.placing.proofs.CountLaws.{count-le}
 use Rattle.placing.proofs.GaplessLaws.{values-le, values-same}
@@ -26,7 +26,7 @@ pub looked-up : (n : ℕ) (g counts belows : List ℕ) → n ≤ 32 → Counts n
 unfolding endsBefore endNumber
 looked-up n g counts belows few C B p h =
     let e = C .each p h in
-    let l : getD counts p 0 ≤ 2 * n = omega (arith, count-le (λ q. before n g q p) (2 * n)) in
+    let l : getD counts p 0 ≤ 2 * n = omega (arith, count-le (λ q. endBefore n g q p) (2 * n)) in
     let b = B .each (getD counts p 0) l in
     record {
       count-le = omega arith;

@@ -9,7 +9,7 @@ use lib.ListN.{getD}
 use lib.IntN.{ℤ, pos}
 use lib.Signed.{ltZ}
 use Rattle.relation.specs.Comparing.{relBy}
-use Rattle.relation.specs.Sets.{member, digit, some}
+use Rattle.relation.specs.Sets.{member, oneIf, some}
 use Rattle.grid.specs.Cells.{cell}
 use Rattle.placing.specs.Checking.{someLate}
 
@@ -20,17 +20,17 @@ unfoldable pub earlier : ℕ → ℕ → ℕ
 earlier e f = getD (getD ((2581 ∷ 8181 ∷ []) ∷ (1 ∷ 341 ∷ []) ∷ []) e []) f 0
 
 -- end p is before end q, by the cell of their events
-unfoldable pub before : ℕ → List ℕ → ℕ → ℕ → Bool
-before n g p q = not (eqb (bitAnd (cell n g (p / 2) (q / 2)) (earlier (p % 2) (q % 2))) 0)
+unfoldable pub endBefore : ℕ → List ℕ → ℕ → ℕ → Bool
+endBefore n g p q = not (eqb (bitAnd (cell n g (p / 2) (q / 2)) (earlier (p % 2) (q % 2))) 0)
 
 -- how many numbers below k pass a test
 unfoldable pub count : ℕ → (ℕ → Bool) → ℕ
 count zero t = 0
-count (suc k) t = digit (t k) + count k t
+count (suc k) t = oneIf (t k) + count k t
 
 -- how many ends are before end p
 unfoldable pub endsBefore : ℕ → List ℕ → ℕ → ℕ
-endsBefore n g p = count (2 * n) (λ q. before n g q p)
+endsBefore n g p = count (2 * n) (λ q. endBefore n g q p)
 
 -- v is a value of f, at some place below m
 abbrev pub isValue : (ℕ → ℕ) → ℕ → ℕ → Bool

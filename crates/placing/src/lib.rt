@@ -7,7 +7,7 @@ ghost use Rattle.relation.specs.Comparing.{more, order, relBy, relFrom};
 ghost use Rattle.grid.specs.Accepted.{judgedNumber};
 ghost use Rattle.placing.specs.Placing.{at, naturalOf};
 ghost use Rattle.placing.specs.Checking.{lengthRefusal, someLate, restRefusal, checkRefusal, CheckSays};
-ghost use Rattle.placing.specs.Settling.{earlier, before, endsBefore, isValue, relationAt, rowMissed, someMissed, Settled};
+ghost use Rattle.placing.specs.Settling.{earlier, endBefore, endsBefore, isValue, relationAt, rowMissed, someMissed, Settled};
 ghost use Rattle.placing.specs.Steps.{orderOf, mostEnds, Counts, Belows, Numbers, Copied};
 use grid::EVENTS;
 use grid::Judged;
@@ -34,7 +34,7 @@ const ENDS: usize = 2 * EVENTS;
 const EARLIER: [[u16; 2]; 2] = [[2581, 8181], [1, 341]];
 
 // Whether a placing meets every cell of a grid.
-pub fn check_placing(n: usize, g: &[u16], placing: &[i32]) -> CheckAnswer
+pub fn check_placing(g: &[u16], n: usize, placing: &[i32]) -> CheckAnswer
     ensures { λ r. ⌜ CheckSays n (now (g .entry)) (now (placing .entry)) r ⌝ }
 {
     let judged = judge_check(g, n, placing);
@@ -223,7 +223,7 @@ fn earlier(e: usize, f: usize) -> u16
 // End p is before end q, by the cell of their events.
 fn is_before(g: &[u16], n: usize, p: usize, q: usize) -> bool
     requires { ⌜ (n ≤ 32) × (p < 2 * n) × (q < 2 * n) × (n * n ≤ length (now g)) ⌝ }
-    ensures { λ r. ⌜ r ≡ before n (now (g .entry)) p q ⌝ }
+    ensures { λ r. ⌜ r ≡ endBefore n (now (g .entry)) p q ⌝ }
 {
     grid::get(g, n, p / 2, q / 2) & earlier(p % 2, q % 2) != 0
 }

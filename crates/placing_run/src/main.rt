@@ -40,7 +40,7 @@ fn read_numbers(b: &[u8], at: usize, xs: &mut [i32])
 fn check_front(n: usize, g: &[u16], cells: usize, xs: &[i32], numbers: usize) -> CheckAnswer
     requires { ⌜ (cells ≤ length (now g)) × (numbers ≤ length (now xs)) ⌝ }
 {
-    placing::check_placing(n, &g[..cells], &xs[..numbers])
+    placing::check_placing(&g[..cells], n, &xs[..numbers])
 }
 
 fn write_answer(out: &mut [u8], answer: CheckAnswer)

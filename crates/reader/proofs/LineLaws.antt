@@ -14,10 +14,10 @@ use Rattle.text.proofs.PartLaws.{until, part-end, after-next, after-last, part-
 use Rattle.sheet.specs.Sheet.{lf}
 use Rattle.sheet.specs.Steps.{partsFrom, Ends as Next}
 use Rattle.sheet.proofs.LineLaws.{line-ends as sheet-line-ends}
-use Rattle.reader.specs.Lines.{firstOf, lineAt}
+use Rattle.reader.specs.Lines.{nextOf, lineAt}
 use Rattle.reader.specs.declared.NextLine.the-variants.{Ends, Unended, Nothing}
 
-first-ends : (a : ℕ) (l : List ℕ) (ps : List (List ℕ)) → 1 ≤ length ps → firstOf a (l ∷ ps) ≡ Ends (a + length l)
+first-ends : (a : ℕ) (l : List ℕ) (ps : List (List ℕ)) → 1 ≤ length ps → nextOf a (l ∷ ps) ≡ Ends (a + length l)
 first-ends a l [] h = absurd (omega arith)
 first-ends a l (p ∷ ps) h = refl
 
@@ -44,7 +44,7 @@ module _ (s : List ℕ) (a : ℕ) where
   inside : (e : ℕ) → lineAt s a ≡ Ends e → a < length s
   inside e q = by (leb (length s) a) refl q
     where
-      by : (t : Bool) → leb (length s) a ≡ t → cond t Nothing (firstOf a (partsFrom s a)) ≡ Ends e → a < length s
+      by : (t : Bool) → leb (length s) a ≡ t → cond t Nothing (nextOf a (partsFrom s a)) ≡ Ends e → a < length s
       by true h q = let z : _≡_ {A = ℕ} 0 1 = cc in absurd (omega arith)
       by false h q = leb-false (length s) a h
 

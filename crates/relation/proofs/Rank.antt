@@ -8,7 +8,7 @@ use native.Mathlib.Omega.{arith}
 use lib.Dec.{T, ltb}
 use lib.ListN.{length}
 use borrow.Author.Tests.{lt-ltb, le-ltb}
-use Rattle.relation.specs.Sets.{digit}
+use Rattle.relation.specs.Sets.{oneIf}
 use Rattle.relation.proofs.Tested.{T-of, of-T, false-of}
 
 pub data In {A : Type 0} (x : A) : List A → Type 0 where
@@ -21,20 +21,20 @@ pub record Weak {A : Type 0} (lt : A → A → Bool) : Type 0 where
   pub trans : (x y z : A) → T (lt x y) → T (lt y z) → T (lt x z)
   pub split : (x y z : A) → T (lt x z) → lt y z ≡ false → T (lt x y)
 
-digit-le : (p q : Bool) → (T p → T q) → digit p ≤ digit q
+digit-le : (p q : Bool) → (T p → T q) → oneIf p ≤ oneIf q
 digit-le true true h = omega arith
 digit-le true false h = absurd (h tt)
 digit-le false true h = omega arith
 digit-le false false h = omega arith
 
-pub digit-le-one : (p : Bool) → digit p ≤ 1
+pub digit-le-one : (p : Bool) → oneIf p ≤ 1
 digit-le-one true = omega arith
 digit-le-one false = omega arith
 
 -- how many of the list are below x
 unfoldable pub rank : {A : Type 0} → (A → A → Bool) → List A → A → ℕ
 rank lt [] x = 0
-rank lt (y ∷ ys) x = digit (lt y x) + rank lt ys x
+rank lt (y ∷ ys) x = oneIf (lt y x) + rank lt ys x
 
 module _ {A : Type 0} (lt : A → A → Bool) (W : Weak lt) where
   irrefl : (x : A) → lt x x ≡ false
@@ -49,8 +49,8 @@ module _ {A : Type 0} (lt : A → A → Bool) (W : Weak lt) where
   rank-less : (L : List A) (x y : A) → In x L → T (lt x y) → rank lt L x < rank lt L y
   unfolding rank
   rank-less (z ∷ zs) x y here h =
-      let e : digit (lt x x) ≡ 0 = ap digit (irrefl x) in
-      let f : digit (lt x y) ≡ 1 = ap digit (of-T (lt x y) h) in
+      let e : oneIf (lt x x) ≡ 0 = ap oneIf (irrefl x) in
+      let f : oneIf (lt x y) ≡ 1 = ap oneIf (of-T (lt x y) h) in
       omega (arith, rank-le zs x y (λ w k. W .trans w x y k h))
   rank-less (z ∷ zs) x y (there i) h =
       omega (arith, digit-le (lt z x) (lt z y) (λ k. W .trans z x y k h), rank-less zs x y i h)
@@ -64,7 +64,7 @@ module _ {A : Type 0} (lt : A → A → Bool) (W : Weak lt) where
   pub rank-lt : (L : List A) (x : A) → In x L → rank lt L x < length L
   unfolding rank
   rank-lt (z ∷ zs) x here =
-      let e : digit (lt x x) ≡ 0 = ap digit (irrefl x) in
+      let e : oneIf (lt x x) ≡ 0 = ap oneIf (irrefl x) in
       omega (arith, rank-all zs x)
   rank-lt (z ∷ zs) x (there i) = omega (arith, digit-le-one (lt z x), rank-lt zs x i)
 

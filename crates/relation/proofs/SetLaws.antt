@@ -8,7 +8,7 @@ use native.Mathlib.Omega.{arith}
 use lib.Dec.{T, eqb, lit<}
 use lib.Bits.{bitAnd, bitOr, or-shr, and-shr, or-step, and-step, and-le-l}
 use lib.Pow.{shr-shr, pow-lt, field, mod-mod-pow}
-use Rattle.relation.specs.Sets.{member, digit, setBelow, setOf, Inside}
+use Rattle.relation.specs.Sets.{member, oneIf, setBelow, setOf, Inside}
 use Rattle.relation.proofs.Tested.{and-left, and-right, and-both, or-cases, or-left, or-right, all, all-at, both-ways, same-test, same-test-eq}
 
 -- ---- the members of a union and of a cut
@@ -119,11 +119,11 @@ member-low-marks t a h =
 
 -- ---- the set of those that pass a test
 
-digit-lt : (x : Bool) → digit x < 2
+digit-lt : (x : Bool) → oneIf x < 2
 digit-lt true = lit< tt
 digit-lt false = lit< tt
 
-digit-test : (x : Bool) → eqb (digit x) 1 ≡ x
+digit-test : (x : Bool) → eqb (oneIf x) 1 ≡ x
 digit-test true = refl
 digit-test false = refl
 
@@ -137,12 +137,12 @@ unfolding setBelow
 member-setBelow zero p t h = absurd (not-suc-le-zero h)
 member-setBelow (suc k) p zero h =
     let d = digit-lt (p 0) in
-    let e : (digit (p 0) + 2 * setBelow k (λ t. p (suc t))) % 2 ≡ digit (p 0) = omega arith in
-    member-low (digit (p 0) + 2 * setBelow k (λ t. p (suc t))) ∙ ap (λ (x : ℕ). eqb x 1) e ∙ digit-test (p 0)
+    let e : (oneIf (p 0) + 2 * setBelow k (λ t. p (suc t))) % 2 ≡ oneIf (p 0) = omega arith in
+    member-low (oneIf (p 0) + 2 * setBelow k (λ t. p (suc t))) ∙ ap (λ (x : ℕ). eqb x 1) e ∙ digit-test (p 0)
 member-setBelow (suc k) p (suc t) h =
     let d = digit-lt (p 0) in
-    let e : (digit (p 0) + 2 * setBelow k (λ t. p (suc t))) / 2 ≡ setBelow k (λ t. p (suc t)) = omega arith in
-    member-high t (digit (p 0) + 2 * setBelow k (λ t. p (suc t))) ∙ ap (λ (x : ℕ). member t x) e
+    let e : (oneIf (p 0) + 2 * setBelow k (λ t. p (suc t))) / 2 ≡ setBelow k (λ t. p (suc t)) = omega arith in
+    member-high t (oneIf (p 0) + 2 * setBelow k (λ t. p (suc t))) ∙ ap (λ (x : ℕ). member t x) e
     ∙ member-setBelow k (λ t. p (suc t)) t (le-of-suc-le-suc h)
 
 pub setOf-lt : (p : ℕ → Bool) → setOf p < 8192

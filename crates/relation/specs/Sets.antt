@@ -7,14 +7,15 @@ use lib.Dec.{T, eqb}
 unfoldable pub member : ℕ → ℕ → Bool
 member r a = eqb (a / 2 ^ r % 2) 1
 
-abbrev pub digit : Bool → ℕ
-digit true = 1
-digit false = 0
+-- 1 where a test is passed, and else 0
+abbrev pub oneIf : Bool → ℕ
+oneIf true = 1
+oneIf false = 0
 
 -- the set of the relations below k that pass a test
 unfoldable pub setBelow : ℕ → (ℕ → Bool) → ℕ
 setBelow zero p = 0
-setBelow (suc k) p = digit (p 0) + 2 * setBelow k (λ r. p (suc r))
+setBelow (suc k) p = oneIf (p 0) + 2 * setBelow k (λ r. p (suc r))
 
 -- the set of the relations that pass a test
 unfoldable pub setOf : (ℕ → Bool) → ℕ

@@ -10,7 +10,7 @@ use lib.ListN.{length, getD}
 use Rattle.relation.proofs.Tested.{T-of, of-T, some-at}
 use Rattle.grid.specs.Cells.{cell, someEmpty, EmptyCell}
 use Rattle.grid.specs.Accepted.{Accepted}
-use Rattle.grid.proofs.CellLaws.{place, found}
+use Rattle.grid.proofs.CellLaws.{place, located}
 use Rattle.grid.proofs.AcceptedLaws.{none-passes}
 use Rattle.theory.specs.Fair.{Fine, Full, Fair}
 use Rattle.theory.specs.Allen.{allen}
@@ -43,5 +43,5 @@ module _ (n : ℕ) (g : List ℕ) (a : Accepted n g) where
   unfolding cell
   hole e =
       let w = some-at (length g) (λ p. eqb (getD g p 0) 0) (T-of e) in
-      let f = found n (w .0) (omega (arith, w .1, a .long)) in
+      let f = located n (w .0) (omega (arith, w .1, a .long)) in
       (w .0 / n, w .0 % n, f .row, f .column, ap (λ (p : ℕ). getD g p 0) (f .back) ∙ eqb-true (getD g (w .0) 0) 0 (of-T (eqb (getD g (w .0) 0) 0) (w .2)))

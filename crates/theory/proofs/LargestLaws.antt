@@ -14,7 +14,7 @@ use Rattle.relation.specs.Sets.{member, setOf, some}
 use Rattle.relation.proofs.Tested.{of-T, and-left, and-right, and-both, some-at, some-in, some-yes, some-no}
 use Rattle.relation.proofs.SetLaws.{member-setOf, setOf-lt}
 use Rattle.grid.specs.Cells.{upTo, cell, someEmpty}
-use Rattle.grid.proofs.CellLaws.{upTo-length, upTo-at, zeros, cell-cleared, found, same-cells}
+use Rattle.grid.proofs.CellLaws.{upTo-length, upTo-at, zeros, cell-cleared, located, same-cells}
 use Rattle.theory.specs.Calculus.{Calculus, Sub}
 use Rattle.theory.specs.Closing.{Cells, Within, Closed, Closing}
 use Rattle.theory.specs.Fair.{Full}
@@ -78,7 +78,7 @@ full-none : (n : ℕ) (h : List ℕ) → length h ≡ n * n → Full n h → som
 unfolding cell
 full-none n h l full =
     some-no (length h) (λ p. eqb (getD h p 0) 0)
-    (λ p lt. let f = found n p (omega arith) in
+    (λ p lt. let f = located n p (omega arith) in
     ne-eqb (getD h p 0) 0 (λ z. full (p / n) (p % n) (f .row) (f .column) (ap (λ (x : ℕ). getD h x 0) (f .back) ∙ z)))
 
 zeros-empty : (n : ℕ) → 0 < n → someEmpty (replicate (n * n) 0) ≡ true
@@ -192,7 +192,7 @@ module _ (A : Calculus) (L : Lawful A) (S : OfSets A) (n : ℕ) where
         where
           go : Dec (p < n * n) → getD listed p 0 < 8192
           go (yes h) =
-              let f = found n p h in
+              let f = located n p h in
               subst (λ (a : ℕ). a < 8192) (sym (upTo-at (n * n) (λ p. D (p / n) (p % n)) p h))
               (S .small (D (p / n) (p % n)) (cell n g (p / n) (p % n)) (w (p / n) (p % n) (f .row) (f .column)) (small (p / n) (p % n) (f .row) (f .column)))
           go (no h) = subst (λ (a : ℕ). a < 8192) (sym (List·getD-eq-default listed 0 (omega (arith, upTo-length (n * n) (λ p. D (p / n) (p % n)))))) (omega arith)

@@ -8,7 +8,7 @@ use native.Mathlib.Omega.{arith}
 use native.Mathlib.Decide.{ℕ-discrete}
 use borrow.Author.Tests.{eq-eqb, ne-eqb}
 use lib.ListN.{length, length-append}
-use Rattle.relation.specs.Sets.{digit}
+use Rattle.relation.specs.Sets.{oneIf}
 use Rattle.theory.specs.Line.{IsPair, pairOf, occurs, joins}
 
 pub occurs-append : (p : ℕ) (q r : List ℕ) → occurs p (q ++ r) ≡ occurs p q + occurs p r
@@ -18,7 +18,7 @@ occurs-append p (x ∷ q) r = omega (arith, occurs-append p q r)
 
 pub occurs-cons-same : (p : ℕ) (q : List ℕ) → occurs p (p ∷ q) ≡ 1 + occurs p q
 unfolding occurs
-occurs-cons-same p q = ap (λ (b : Bool). digit b + occurs p q) (eq-eqb p p refl)
+occurs-cons-same p q = ap (λ (b : Bool). oneIf b + occurs p q) (eq-eqb p p refl)
 
 pub occurs-cons-other : (c p : ℕ) (q : List ℕ) → (c ≡ p → ⊥) → occurs c (p ∷ q) ≡ occurs c q
 unfolding occurs

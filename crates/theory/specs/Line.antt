@@ -3,7 +3,7 @@ use mathlib.Core.List.{List, [], _∷_, _++_}
 use mathlib.Core.Bool.{cond}
 use Prim.Native.Nat.{ℕ, zero, suc, _+_, _-_, _*_, _/_, _%_, _<_, min, max}
 use lib.Dec.{eqb}
-use Rattle.relation.specs.Sets.{digit}
+use Rattle.relation.specs.Sets.{oneIf}
 
 -- the number of the pair of a and b
 abbrev pub pairOf : ℕ → ℕ → ℕ
@@ -16,7 +16,7 @@ IsPair n p = (p / 32 < p % 32) × (p % 32 < n)
 -- how often p waits
 unfoldable pub occurs : ℕ → List ℕ → ℕ
 occurs p [] = 0
-occurs p (x ∷ q) = digit (eqb p x) + occurs p q
+occurs p (x ∷ q) = oneIf (eqb p x) + occurs p q
 
 -- p joins the end, unless it is waiting already
 unfoldable pub joins : ℕ → List ℕ → List ℕ

@@ -2,7 +2,7 @@
 use mathlib.Core.Path.{_≡_, sym, ap, _∙_}
 use mathlib.Core.Logic.{⊎-elim}
 use Prim.Native.Nat.{ℕ, _-_, _*_, _≤_}
-use Rattle.placing.specs.Settling.{before, count, endsBefore}
+use Rattle.placing.specs.Settling.{endBefore, count, endsBefore}
 use Rattle.placing.proofs.CountLaws.{count-none, count-step}
 use borrow.Author.Needs.{needs}
 use native.Mathlib.Omega.{arith}
@@ -10,13 +10,13 @@ use Rattle.placing.proofs.ends_before.Statement.{statement}
 use Rattle.placing.proofs.ends_before.Tie as tie
 
 abbrev Inv-loop : tie.InvT-loop
-Inv-loop g n p found₀ q₀ found q = (q ≤ 2 * n) × (found ≤ q) × (found ≡ count q (λ z. before n g z p))
+Inv-loop g n p found₀ q₀ found q = (q ≤ 2 * n) × (found ≤ q) × (found ≡ count q (λ z. endBefore n g z p))
 
 abbrev μ-loop : tie.MeasureT-loop
 μ-loop g n p found₀ q₀ found q = 2 * n - q
 
 loop-holds : tie.Need-loop-holds Inv-loop μ-loop
-loop-holds c = let A = c .before .args in (search needs, search needs, sym (count-none (λ z. before (A .n) (A .g .now) z (A .p))))
+loop-holds c = let A = c .before .args in (search needs, search needs, sym (count-none (λ z. endBefore (A .n) (A .g .now) z (A .p))))
 
 mul-loop : tie.Need-mul-loop Inv-loop μ-loop
 mul-loop c = search needs
@@ -38,8 +38,8 @@ loop-again c =
     let L = c .before .before .before .loop in
     let A = c .before .before .before .before .before .args in
     ⊎-elim
-    (λ w. (search needs, omega arith, count-step (λ z. before (A .n) (A .g .now) z (A .p)) (L .q) (L .found) _ _ _ (L .inv .2) (c .before .is-before .ensures) (w .0 .taken) (w .1)))
-    (λ w. (search needs, omega arith, count-step (λ z. before (A .n) (A .g .now) z (A .p)) (L .q) (L .found) _ _ _ (L .inv .2) (c .before .is-before .ensures) (w .0 .left) (omega arith)))
+    (λ w. (search needs, omega arith, count-step (λ z. endBefore (A .n) (A .g .now) z (A .p)) (L .q) (L .found) _ _ _ (L .inv .2) (c .before .is-before .ensures) (w .0 .taken) (w .1)))
+    (λ w. (search needs, omega arith, count-step (λ z. endBefore (A .n) (A .g .now) z (A .p)) (L .q) (L .found) _ _ _ (L .inv .2) (c .before .is-before .ensures) (w .0 .left) (omega arith)))
     (c .if1 .came)
 
 returns : tie.Need-returns Inv-loop μ-loop
@@ -47,7 +47,7 @@ unfolding endsBefore
 returns c =
     let A = c .before .before .before .args in
     let e : c .before .loop .q ≡ 2 * A .n = omega arith in
-    c .before .loop .inv .2 ∙ ap (λ (k : ℕ). count k (λ z. before (A .n) (A .g .now) z (A .p))) e
+    c .before .loop .inv .2 ∙ ap (λ (k : ℕ). count k (λ z. endBefore (A .n) (A .g .now) z (A .p))) e
 
 pub ends-before-spec : {M : Type 1} → statement M
 ends-before-spec =

@@ -4,7 +4,7 @@ use mathlib.Core.Bool.{not}
 use Prim.Native.Nat.{ℕ}
 use lib.Bits.{bitAnd}
 use lib.Dec.{eqb}
-use Rattle.placing.specs.Settling.{before}
+use Rattle.placing.specs.Settling.{endBefore}
 use native.Mathlib.Omega.{arith}
 use borrow.Author.Needs.{needs}
 use Rattle.placing.proofs.is_before.Statement.{statement}
@@ -17,7 +17,7 @@ earlier-requires : tie.Need-earlier-requires
 earlier-requires c κs = search needs
 
 returns : tie.Need-returns
-unfolding before
+unfolding endBefore
 returns c = ap₂ (λ (a b : ℕ). not (eqb (bitAnd a b) 0)) (c .before .get .ensures) (c .earlier .ensures)
 
 pub is-before-spec : {M : Type 1} → statement M
