@@ -45,7 +45,7 @@ refused-requires c κs = search needs
 returns : tie.Need-returns
 returns c =
     let Z = c .before .before .before .before in
-    sheet-refused (sheet (Z .args .s .now)) (Z .args .s .now) _ (c .refused .result .table) (c .refused .result .answer) SheetTooLong 0 (sheet-long (Z .args .s .now) (c .before .if1 .taken)) (c .refused .ensures)
+    sheet-refused (sheet (Z .args .s .now)) (Z .args .s .now) _ (c .refused .result .table) (c .refused .result .answer) SheetTooLong 0 (sheet-long (Z .args .s .now) (omega (arith, c .before .if1 .taken))) (c .refused .ensures)
 
 part-end-requires : tie.Need-part-end-requires
 part-end-requires c κs = search needs
@@ -57,7 +57,7 @@ returns-2 : tie.Need-returns-2
 returns-2 c =
     let P = c .before .before in
     sheet-refused (sheet (S P .args .s .now)) (S P .args .s .now) _ (c .refused2 .result .table) (c .refused2 .result .answer) LineForm 1
-    (sheet-missing (S P .args .s .now) (P .before .if1 .left) (P .part-end .result) (P .part-end .ensures) (omega (arith, c .before .if2 .taken))) (c .refused2 .ensures)
+    (sheet-missing (S P .args .s .now) (omega (arith, P .before .if1 .left)) (P .part-end .result) (P .part-end .ensures) (omega (arith, c .before .if2 .taken))) (c .refused2 .ensures)
 
 slice-aggregate-number-up-to : tie.Need-slice-aggregate-number-up-to
 slice-aggregate-number-up-to c = let P = c .before .before in sym (length-take-le (P .part-end .result) (S P .args .s .now) (P .part-end .ensures .high))
@@ -103,7 +103,7 @@ returns-3 c =
     let K = c .before .before .before .before .before in
     let Q = P (N K) in
     subst (λ (o : Outcome). SheetSays o (S Q .args .s .now) (F .lines-into .last .1 .1 .1 .0) (F .lines-into .result .table) (F .lines-into .result .answer))
-    (sym (sheet-lines (S Q .args .s .now) (Q .before .if1 .left) (Q .part-end .result) (Q .part-end .ensures) (inside (N K)) (is K .0) (K .n .given .0 .0) (is K .2) (omega (arith, is K))))
+    (sym (sheet-lines (S Q .args .s .now) (omega (arith, Q .before .if1 .left)) (Q .part-end .result) (Q .part-end .ensures) (inside (N K)) (is K .0) (K .n .given .0 .0) (is K .2) (omega (arith, is K))))
     (F .lines-into .ensures)
 
 returns-4 : tie.Need-returns-4
@@ -112,7 +112,7 @@ returns-4 c =
     let Q = P M in
     let n = above-number mostEvents (Ln Q) (sym (M .number-up-to .ensures) ∙ c .before .enum-told .given .1) in
     sheet-refused (sheet (S Q .args .s .now)) (S Q .args .s .now) _ (c .refused3 .result .table) (c .refused3 .result .answer) TooManyEvents 1
-    (sheet-many (S Q .args .s .now) (Q .before .if1 .left) (Q .part-end .result) (Q .part-end .ensures) (inside M) (n .0) (n .1)) (c .refused3 .ensures)
+    (sheet-many (S Q .args .s .now) (omega (arith, Q .before .if1 .left)) (Q .part-end .result) (Q .part-end .ensures) (inside M) (n .0) (n .1)) (c .refused3 .ensures)
 
 returns-5 : tie.Need-returns-5
 returns-5 c =
@@ -120,7 +120,7 @@ returns-5 c =
     let Q = P M in
     let n = no-number mostEvents (Ln Q) (sym (M .number-up-to .ensures) ∙ c .before .enum-told2 .given .1) in
     sheet-refused (sheet (S Q .args .s .now)) (S Q .args .s .now) _ (c .refused4 .result .table) (c .refused4 .result .answer) LineForm 1
-    (sheet-no-number (S Q .args .s .now) (Q .before .if1 .left) (Q .part-end .result) (Q .part-end .ensures) (inside M) n) (c .refused4 .ensures)
+    (sheet-no-number (S Q .args .s .now) (omega (arith, Q .before .if1 .left)) (Q .part-end .result) (Q .part-end .ensures) (inside M) n) (c .refused4 .ensures)
 
 pub read-into-spec : {M : Type 1} → statement M
 read-into-spec =
