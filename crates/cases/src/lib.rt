@@ -1,5 +1,7 @@
 // What the programs of the gate share: numbers in bytes, low byte first, and whole reads and writes. What they write is compared
 // with stored answers, so the contracts here say only that nothing lies past a room.
+#![tactic(auto)]
+
 ghost use Rattle.std.specs.Prelude.{◌+◌, ◌*◌, ◌≤◌, length};
 
 use libc::{STDIN_FILENO, STDOUT_FILENO};

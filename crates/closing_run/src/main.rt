@@ -2,6 +2,8 @@
 // stdout has what an independent program works out (second/).
 // A case: n, the limit, the number of cells, and the cells. An answer of each closing: 0 closed,
 // 1 contradiction, 2 paused or 3 refused, the takes or the refusal's number, and the cells.
+#![tactic(auto)]
+
 ghost use Rattle.std.specs.Prelude.{◌*◌, ◌≤◌, length};
 
 use plain::PlainAnswer;

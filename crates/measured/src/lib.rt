@@ -1,4 +1,6 @@
 // The public functions under C's calling convention, for the benchmark: each answer as one number.
+#![tactic(auto)]
+
 ghost use Rattle.std.specs.Prelude.{◌≡◌};
 ghost use Rattle.relation.specs.Answers.{said_of, compose_said};
 ghost use Rattle.quick.specs.Answers.{QuickCloses};

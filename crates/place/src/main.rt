@@ -1,5 +1,7 @@
 // Prints `placed`, `none`, `gave-up` or `refused` for the sheet on standard input, and the placing. The bytes are those of
 // `report`; this program only reads and writes.
+#![tactic(auto)]
+
 use desk::ROOM;
 use libc::{STDERR_FILENO, STDOUT_FILENO};
 use report::PRINTED;

@@ -1,4 +1,6 @@
 // Placings: the checker, and the one placing without gaps of a scenario.
+#![tactic(auto)]
+
 ghost use Rattle.std.specs.Prelude.{◌≡◌, ◌+◌, ◌*◌, ◌≤◌, ◌<◌, length, get_or};
 ghost use Rattle.std.specs.Int.Signed.{lt_z};
 ghost use Rattle.relation.specs.Comparing.{more, order, rel_by, rel_from};

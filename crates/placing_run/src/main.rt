@@ -1,6 +1,8 @@
 // Reads cases from standard input and writes the answers of `check_placing`. The file stdout has those of an independent
 // program, which compares the ends itself (second/, `check-vectors`). A case is n, how many cells and how many numbers, the
 // cells and the numbers; an answer a kind (0 yes, 1 no, 3 refused) and a refusal's number or 0.
+#![tactic(auto)]
+
 ghost use Rattle.std.specs.Prelude.{◌+◌, ◌*◌, ◌≤◌, length};
 
 use placing::CheckAnswer;

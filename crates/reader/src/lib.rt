@@ -1,6 +1,8 @@
 // A reader over a sheet: it holds the lent bytes and its place in them, and hands on line after line.
 // The borrow checker covers no function over such a struct, so each of the methods is thin and is
 // walked by hand; the work is done by line_at, and line_from has plain parameters again.
+#![tactic(auto)]
+
 ghost use Rattle.std.specs.Prelude.{◌≡◌};
 ghost use Rattle.reader.specs.Lines.{line_at, line_count};
 

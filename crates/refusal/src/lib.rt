@@ -1,4 +1,6 @@
 // The refusals of Rules 7.1: one name for each number.
+#![tactic(auto)]
+
 ghost use Rattle.std.specs.Prelude.{◌≡◌};
 ghost use Rattle.refusal.specs.Numbers.{number_of};
 

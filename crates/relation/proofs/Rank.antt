@@ -48,6 +48,7 @@ module _ {A : Type 0} (lt : A → A → Bool) (W : Weak lt) where
 
   rank_less : (L : List A) (x y : A) → In x L → T (lt x y) → rank lt L x < rank lt L y
   unfolding rank
+  rank_less [] x y i h = elim i [ ]
   rank_less (z ∷ zs) x y here h =
       let e : one_if (lt x x) ≡ 0 = ap one_if (irrefl x) in
       let f : one_if (lt x y) ≡ 1 = ap one_if (of_T (lt x y) h) in
@@ -63,6 +64,7 @@ module _ {A : Type 0} (lt : A → A → Bool) (W : Weak lt) where
   -- a rank is below the list's length
   pub rank_lt : (L : List A) (x : A) → In x L → rank lt L x < length L
   unfolding rank
+  rank_lt [] x i = elim i [ ]
   rank_lt (z ∷ zs) x here =
       let e : one_if (lt x x) ≡ 0 = ap one_if (irrefl x) in
       omega (arith, rank_all zs x)

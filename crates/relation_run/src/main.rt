@@ -1,6 +1,8 @@
 // Reads cases from standard input and writes the answers of `converse` and `compose`. The file
 // stdout has those of an independent program, which works them out from the meaning (second/).
 // A case is two sets; an answer a refusal's number or 0, and a set.
+#![tactic(auto)]
+
 ghost use Rattle.std.specs.Prelude.{◌+◌, ◌≤◌, length};
 
 use relation::SetAnswer;

@@ -1,4 +1,6 @@
 // What the programs print for a sheet, to the byte.
+#![tactic(auto)]
+
 ghost use Rattle.std.specs.Prelude.{◌≡◌, [], ◌∷◌, ◌+◌, ◌*◌, ◌≤◌, ◌<◌, length, take};
 ghost use Rattle.text.specs.Names.{longest_name};
 ghost use Rattle.refusal.specs.Numbers.{number_of};

@@ -2,6 +2,8 @@
 // an independent program works out (second/, `search-vectors`). A case is n, the allowance, how many cells and how many
 // numbers of room, and the cells; the room holds -7 everywhere before. An answer is a kind (0 placed, 1 none, 2 gave up,
 // 3 refused), the tries or the refusal's number, and the room.
+#![tactic(auto)]
+
 ghost use Rattle.std.specs.Prelude.{◌+◌, ◌*◌, ◌≤◌, length};
 
 use search::PlaceAnswer;

@@ -1,4 +1,6 @@
 // Sheets: read into a grid, or refused; the names handed back.
+#![tactic(auto)]
+
 ghost use Rattle.std.specs.Prelude.{◌≡◌, [], ◌+◌, ◌*◌, ◌≤◌, ◌<◌, length, take};
 ghost use Rattle.words.specs.Words.{words};
 ghost use Rattle.sheet.specs.Sheet.{most_events, find, contents, sheet};

@@ -4,6 +4,8 @@
 // pieces, of which the second is repeated: the lengths of the three, how often, and their bytes.
 // An answer: 0 accepted or 3 refused, n or the refusal's number, the line, the checksum of the room,
 // where the name starts, how long it is, and its bytes.
+#![tactic(auto)]
+
 ghost use Rattle.std.specs.Prelude.{◌*◌, ◌+◌, ◌≤◌, ◌<◌, length};
 
 use sheet::SheetAnswer;

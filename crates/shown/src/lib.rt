@@ -1,1 +1,2 @@
 // What is shown of several rooms together. It holds no code.
+#![tactic(auto)]

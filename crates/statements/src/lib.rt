@@ -1,4 +1,6 @@
 // The grid of a list of statements: the start, and what each statement cuts.
+#![tactic(auto)]
+
 ghost use Rattle.std.specs.Prelude.{◌≡◌, ◌*◌, ◌≤◌, ◌<◌, length, take};
 ghost use Rattle.statements.specs.Grid.{start_cell, start_grid, cut_by};
 

@@ -1,4 +1,6 @@
 // The takes of quick closing, from any waiting list: the core of both closing a given grid and a try of the search.
+#![tactic(auto)]
+
 ghost use Rattle.std.specs.Prelude.{◌≡◌, ◌*◌, ◌≤◌, ◌<◌, length, replicate};
 ghost use Rattle.relation.specs.Composition.{converse};
 ghost use Rattle.grid.specs.Cells.{put_both, Held};

@@ -1,4 +1,6 @@
 // Bytes as text: parts between a byte, decimal numbers, names.
+#![tactic(auto)]
+
 ghost use Rattle.std.specs.Prelude.{◌≡◌, true, ◌≤◌, ◌<◌, min, length};
 ghost use Rattle.text.specs.Text.{same, all, digit, value, leading_zero, is_number};
 ghost use Rattle.text.specs.Names.{name_byte, is_name, same_name};

@@ -1,5 +1,7 @@
 // Prints only the first line of what `place` prints for the sheet on standard input. The bytes are those of `report`; this
 // program only reads and writes.
+#![tactic(auto)]
+
 use desk::ROOM;
 use libc::{STDERR_FILENO, STDOUT_FILENO};
 use report::PRINTED;

@@ -1,4 +1,6 @@
 // The relation words and their sets.
+#![tactic(auto)]
+
 ghost use Rattle.std.specs.Prelude.{◌≡◌, ◌<◌};
 ghost use Rattle.text.specs.Text.{same};
 ghost use Rattle.words.specs.Words.{words, meaning, joined};
