@@ -9,7 +9,7 @@ use Rattle.theory.specs.Calculus.{Calculus, Sub}
 use Rattle.theory.specs.Fair.{Fair}
 use Rattle.theory.proofs.Lawful.{Lawful}
 use Rattle.theory.proofs.ClosingLaws.{IsPut, put_cases, put-mirrored, reached_start}
-use Rattle.theory.proofs.KeepLaws.{Good, put_both}
+use Rattle.theory.proofs.KeepLaws.{Good, put_both_lem}
 
 module _ (A : Calculus) (L : Lawful A) (n : ℕ) where
   pub fair_good : (g : List ℕ) → Fair A n g → Good A n g g
@@ -31,7 +31,7 @@ module _ (A : Calculus) (L : Lawful A) (n : ℕ) where
     g = put_both A.conv n h x y v
 
     is-put : IsPut A n (cell n h) (cell n g) x y v
-    is-put = put_both A n h F.fine.fits x y v hx hy ne
+    is-put = put_both_lem A n h F.fine.fits x y v hx hy ne
 
     pub put_fair : Fair A n (put_both A.conv n h x y v)
     put_fair =

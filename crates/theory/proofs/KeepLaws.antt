@@ -16,9 +16,9 @@ use Rattle.theory.proofs.Lawful.{Lawful}
 use Rattle.theory.proofs.QuickLaws.{shrunk-same, shrunk-dead, shrunk_written}
 
 -- a put in a list, with its mirror
-pub put_both : (A : Calculus) (n : ℕ) (g : List ℕ) → n * n ≤ length g → (a b v : ℕ) → a < n → b < n → (a ≡ b → ⊥)
+pub put_both_lem : (A : Calculus) (n : ℕ) (g : List ℕ) → n * n ≤ length g → (a b v : ℕ) → a < n → b < n → (a ≡ b → ⊥)
     → IsPut A n (cell n g) (cell n (put_both A.conv n g a b v)) a b v
-put_both A n g fits a b v ha hb ne =
+put_both_lem A n g fits a b v ha hb ne =
     record {
       here = cell_both_here A.conv n g fits a b v ha hb ne;
       mirror = cell_both_mirror A.conv n g fits a b v ha hb;
@@ -27,7 +27,7 @@ put_both A n g fits a b v ha hb ne =
 
 pub put-cut : (A : Calculus) (n : ℕ) (g : List ℕ) → n * n ≤ length g → (a m b : ℕ) → a < n → b < n → (a ≡ b → ⊥)
     → IsCut A n (cell n g) (cell n (put_both A.conv n g a b (cut_to A (cell n g) a m b))) a m b
-put-cut A n g fits a m b ha hb ne = put_both A n g fits a b (cut_to A (cell n g) a m b) ha hb ne
+put-cut A n g fits a m b ha hb ne = put_both_lem A n g fits a b (cut_to A (cell n g) a m b) ha hb ne
 
 pub record Good (A : Calculus) (n : ℕ) (g₀ g : List ℕ) : Type 0 where
   pub fits : n * n ≤ length g

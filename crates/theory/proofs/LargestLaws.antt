@@ -119,8 +119,8 @@ module _ (A : Calculus) (L : Lawful A) (S : OfSets A) (n : ℕ) where
   within_of d g t i j hi hj =
       sub_of (cell n d i j) (cell n g i j) (every-two-at n (λ i j. is_sub A (cell n d i j) (cell n g i j)) t i j hi hj)
 
-  is_within : (d g : List ℕ) → Within A n (cell n d) (cell n g) → T (is_within A n d g)
-  is_within d g w =
+  is_within_lem : (d g : List ℕ) → Within A n (cell n d) (cell n g) → T (is_within A n d g)
+  is_within_lem d g w =
       every-two_of n (λ i j. is_sub A (cell n d i j) (cell n g i j)) (λ i j hi hj. is_sub_lem (cell n d i j) (cell n g i j) (w i j hi hj))
 
   -- a closed grid inside g
@@ -175,7 +175,7 @@ module _ (A : Calculus) (L : Lawful A) (S : OfSets A) (n : ℕ) where
               subst T (sym (ap (member r) (cell-is i j hi hj) ∙ member-set_of (λ r. some_grid (n * n) (test (i * n + j) r)) r h))
               (some-grid_in (n * n) (test (i * n + j) r) d D.long D.small
               (and_both (is_closed A n d && is_within A n d g) (member r (get_or d (i * n + j) 0))
-              (and_both (is_closed A n d) (is_within A n d g) (is-closed d D.closed) (is_within d g D.within)) t));
+              (and_both (is_closed A n d) (is_within A n d g) (is-closed d D.closed) (is_within_lem d g D.within)) t));
         })
 
     -- the cells of a closed grid inside, as a list

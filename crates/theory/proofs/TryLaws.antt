@@ -15,7 +15,7 @@ use Rattle.theory.specs.Line.{IsPair, pair_of, occurs, all_pairs}
 use Rattle.theory.specs.Quick.{paused, run}
 use Rattle.theory.proofs.Lawful.{Lawful, EqLawful}
 use Rattle.theory.proofs.ClosingLaws.{IsPut, put-within, sub_trans}
-use Rattle.theory.proofs.KeepLaws.{put_both}
+use Rattle.theory.proofs.KeepLaws.{put_both_lem}
 use Rattle.theory.proofs.FairLaws.{fair_good, put_fair}
 use Rattle.theory.proofs.LineLaws.{occurs-cons-same, occurs-cons-other, occurs_nil, pair_same, pair_swap, pair_ok}
 use Rattle.theory.proofs.SettledLaws.{Settled, Served, Pairs, Resting, Right, run_ok}
@@ -38,7 +38,7 @@ module _ (A : Calculus) (L : Lawful A) (n : ℕ) (h : List ℕ) (F : Fair A n h)
   g = put_both A.conv n h x y v
 
   is-put : IsPut A n (cell n h) (cell n g) x y v
-  is-put = put_both A n h F.fine.fits x y v hx hy ne
+  is-put = put_both_lem A n h F.fine.fits x y v hx hy ne
 
   pub cut_inside : Within A n (cell n g) (cell n h)
   cut_inside = put-within A L n (cell n h) (cell n g) x y v is-put F.fine.mirrored hx hy inside
