@@ -17,7 +17,7 @@ pub const ALL: u16 = 8191;
 pub const EQ: u16 = 4096;
 
 // What is found of something handed in.
-#[derive(Drop)]
+#[derive(Clone, Copy)]
 pub enum Judged {
     Accepted,
     Refused(Refusal),

@@ -5,7 +5,7 @@ ghost use Rattle.std.specs.Prelude.{◌≡◌};
 ghost use Rattle.refusal.specs.Numbers.{number_of};
 
 // Why something handed in was not taken.
-#[derive(Drop)]
+#[derive(Clone, Copy)]
 pub enum Refusal {
     TooManyEvents,
     WrongLength,

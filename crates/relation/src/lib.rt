@@ -16,7 +16,7 @@ use refusal::Refusal;
 use table::TABLE;
 
 // A set handed back, or why not.
-#[derive(Drop)]
+#[derive(Clone, Copy)]
 pub enum SetAnswer {
     Set(u16),
     Refused(Refusal),
@@ -252,7 +252,7 @@ fn rows_high(b: u16) -> u64
 }
 
 // The twelve relations but eq, each with a set, four to a number; and the set, which is the row of eq.
-#[derive(Drop)]
+#[derive(Clone, Copy)]
 pub struct Rows {
     pub low: u64,
     pub middle: u64,

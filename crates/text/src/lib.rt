@@ -24,7 +24,7 @@ pub fn part_end(s: &[u8], a: usize, c: u8) -> usize
 }
 
 // Where the first of just two parts ends.
-#[derive(Drop)]
+#[derive(Clone, Copy)]
 pub enum Two {
     At(usize),
     Not,
@@ -116,7 +116,7 @@ fn value_capped(s: &[u8], cap: usize) -> usize
 }
 
 // A decimal number of at most so much, a larger one, or none.
-#[derive(Drop)]
+#[derive(Clone, Copy)]
 pub enum Number {
     Is(usize),
     Above,

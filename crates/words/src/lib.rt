@@ -93,7 +93,7 @@ fn meaning_of(w: &[u8]) -> u16
 }
 
 // The union of a field's words.
-#[derive(Drop)]
+#[derive(Clone, Copy)]
 pub enum Union {
     Set(u16),
     Not,
