@@ -22,7 +22,7 @@ abbrev pub Small : ℤ → Type 0
 Small x = mag x < 2 ^ hbits w32
 
 pub back_is : (x : ℤ) → Small x → back x ≡ x
-back_is x h = to_z-of_z (record { sfits = h })
+back_is x h = to_z-of_z {w = w32} (record { sfits = h })
 
 module _ (x y : ℤ) (hx : Small x) (hy : Small y) where
   pub lt_z_back : lt_z (back x) (back y) ≡ lt_z x y

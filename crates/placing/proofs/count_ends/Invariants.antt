@@ -1,0 +1,13 @@
+use mathlib.Core.Path.{◌≡◌}
+use Prim.Native.Nat.{◌-◌, ◌*◌, ◌≤◌}
+use lib.ListN.{length}
+use Rattle.placing.proofs.FillLaws.{Filled}
+use Rattle.placing.specs.Settling.{ends_before}
+use Rattle.placing.specs.Steps.{most_ends}
+use Rattle.placing.proofs.count_ends.Given as goal
+
+abbrev pub invariant-loop-p : goal.invariant-loop-p
+invariant-loop-p l = (length l.counts ≡ most_ends) × (l.p ≤ 2 * l.n) × Filled (ends_before l.n l.g) l.counts l.p
+
+abbrev pub decreases-loop-p : goal.decreases-loop-p
+decreases-loop-p l = 2 * l.n - l.p

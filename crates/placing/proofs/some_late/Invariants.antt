@@ -1,0 +1,11 @@
+use Prim.Native.Nat.{◌-◌, ◌≤◌}
+use Rattle.relation.proofs.Tested.{NoneBelow}
+use Rattle.placing.specs.Placing.{at}
+use Rattle.placing.specs.Checking.{late}
+use Rattle.placing.proofs.some_late.Given as goal
+
+abbrev pub invariant-loop-i : goal.invariant-loop-i
+invariant-loop-i l = (l.i ≤ l.n) × NoneBelow (late (at l.placing)) l.i
+
+abbrev pub decreases-loop-i : goal.decreases-loop-i
+decreases-loop-i l = l.n - l.i
