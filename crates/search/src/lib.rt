@@ -20,7 +20,7 @@ use refusal::Refusal;
 use takes::End;
 
 // Placed or none with the tries made, gave up with the allowance, or a refusal.
-#[derive(Drop)]
+#[derive(Clone, Copy)]
 pub enum PlaceAnswer {
     Placed(u32),
     None(u32),
@@ -29,27 +29,27 @@ pub enum PlaceAnswer {
 }
 
 // What the cells from one on came to.
-#[derive(Drop)]
+#[derive(Clone, Copy)]
 pub enum Outcome {
     Placed,
     None,
     GaveUp,
 }
 
-#[derive(Drop)]
+#[derive(Clone, Copy)]
 pub struct Looked {
     pub outcome: Outcome,
     pub tries: u32,
 }
 
-#[derive(Drop)]
+#[derive(Clone, Copy)]
 pub struct Cell {
     pub i: usize,
     pub j: usize,
 }
 
 // Where the search stands: at cell (i, j) or past the last, with so many cells left and so many tries made.
-#[derive(Drop)]
+#[derive(Clone, Copy)]
 pub struct Stand {
     pub i: usize,
     pub j: usize,

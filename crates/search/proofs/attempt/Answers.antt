@@ -1,0 +1,33 @@
+-- The copy is the grid; its pair is cut to the relation's mark and closed from there.
+use mathlib.Core.Path.{◌≡◌, sym, ap, ◌∙◌, subst}
+use mathlib.Core.List.{List}
+use Prim.Native.Nat.{ℕ, ◌*◌, ◌≤◌}
+use lib.ListN.{length, take}
+use lib.Seq.{length-take-le, take_at}
+use Rattle.grid.proofs.CellLaws.{copied_front}
+use Rattle.theory.specs.Tried.{tried_by}
+use Rattle.takes.specs.Steps.{ended}
+use Rattle.quick.specs.Steps.{Cuttable}
+use Rattle.search.specs.Rule.{try_at}
+use Rattle.search.proofs.LookLaws.{triable_cut, try_made}
+use native.Mathlib.Omega.{arith}
+use Rattle.search.proofs.attempt.Goals as goal
+
+pub mark-set-requires : goal.mark-set-requires
+mark-set-requires c = c.requires.1.relation
+
+pub slice_bounds-close_pair-end-2 : goal.slice_bounds-close_pair-end-2
+slice_bounds-close_pair-end-2 c = sym (length-take-le _ _ (omega (arith, c.copy.auto.to, c.requires.2.fits)))
+
+pub close_pair-requires : goal.close_pair-requires
+close_pair-requires c =
+    let m = c.args.n * c.args.n in
+    let same : take m c.copy.new.to ≡ c.args.g.now = ap (take m) c.copy.ensures ∙ copied_front c.args.g.now c.args.cut.now m c.requires.1.grid.accepted.long in
+    (c.requires.0, subst (Cuttable c.args.n c.args.i c.args.j c.mark-set.result) (sym same) (triable_cut _ _ _ _ _ _ c.mark-set.ensures c.requires.1))
+
+pub returns : goal.returns
+returns c =
+    let m = c.args.n * c.args.n in
+    let fits : m ≤ length c.copy.new.to = omega (arith, c.copy.auto.to, c.requires.2.fits) in
+    let same : take m c.copy.new.to ≡ c.args.g.now = ap (take m) c.copy.ensures ∙ copied_front c.args.g.now c.args.cut.now m c.requires.1.grid.accepted.long in record { tried = ap (λ (l : List ℕ). tried_by (ended c.close_pair.result l)) (take_at _ _ _ (c.close_pair.auto.g ∙ length-take-le m c.copy.new.to fits))
+          ∙ c.close_pair.ensures.closed ∙ try_made _ _ _ c.args.r _ _ c.mark-set.ensures ∙ ap (try_at c.args.n (c.args.i, c.args.j) c.args.r) same; idle = c.close_pair.ensures.idle }

@@ -1,0 +1,8 @@
+use Rattle.search.specs.Steps.{Passes}
+use Rattle.search.proofs.pass_decided.Given as goal
+
+abbrev pub invariant-loop-at : goal.invariant-loop-at
+invariant-loop-at l = Passes l.n l.allowance l.g l.initial.at l.at
+
+abbrev pub decreases-loop-at : goal.decreases-loop-at
+decreases-loop-at l = l.at.left
