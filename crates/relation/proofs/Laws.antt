@@ -4,7 +4,7 @@ use mathlib.Core.Logic.{◌↔◌}
 use Prim.Native.Nat.{ℕ, ◌≤◌, ◌<◌}
 use native.Mathlib.Omega.{arith}
 use native.Mathlib.Decide.{dec_lt}
-use lib.Dec.{T, eqb, eqb→eq, ltb, ltb→lt, lit<}
+use lib.Dec.{T, eqb→eq, ltb, ltb→lt, lit<}
 use mathlib.Core.List.{List, []}
 use lib.ListN.{get_or, get_or-eq_default}
 use lib.Bits.{bit_or, or_lt}

@@ -1,9 +1,8 @@
 -- Orders of whole numbers: comparing two.
 use mathlib.Core.Path.{◌≡◌, refl, sym, ap, ap₂, subst}
 use mathlib.Core.Bool.{Bool, true, false}
-use Prim.Native.Nat.{◌<◌}
 use native.Mathlib.Nat.{le_antisymm, lt_irrefl, lt_trans}
-use lib.Dec.{T, ltb, ltb→lt, lt→ltb}
+use lib.Dec.{T, ltb→lt, lt→ltb}
 use lib.IntN.{ℤ, pos, negsuc}
 use lib.Signed.{lt_z, ◌<ℤ◌}
 use borrow.Author.Tests.{ltb-false}

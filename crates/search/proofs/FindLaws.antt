@@ -33,7 +33,6 @@ use Rattle.quick.specs.Steps.{ClosedGrid}
 use Rattle.search.specs.Steps.{said_with, Shows, answer_with, answer_of}
 use Rattle.search.specs.declared.Looked.{Looked}
 use Rattle.search.specs.declared.Outcome.{Outcome}
-use Rattle.search.specs.declared.Outcome.TheVariants as Outcome
 use Rattle.search.specs.declared.PlaceAnswer.{PlaceAnswer}
 use Rattle.search.specs.declared.PlaceAnswer.TheVariants.{Placed, None, GaveUp, Refused}
 use Rattle.search.proofs.TryRight.{whole_searched}

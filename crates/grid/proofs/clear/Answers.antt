@@ -1,7 +1,7 @@
 -- The cells passed so far are zeros, and the others as they were.
 use mathlib.Core.Path.{◌≡◌, refl, ap, ◌∙◌}
 use mathlib.Core.List.{List, ◌++◌, append-nil}
-use Prim.Native.Nat.{ℕ, ◌-◌, ◌<◌}
+use Prim.Native.Nat.{ℕ, ◌<◌}
 use borrow.Author.Fill.{fill_more}
 use lib.ListN.{length, drop, replicate, set, length-set}
 use lib.Seq.{drop-length}

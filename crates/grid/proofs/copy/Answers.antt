@@ -1,7 +1,7 @@
 -- The first k cells are those of from, and the others are as they were.
 use mathlib.Core.Path.{◌≡◌, refl, ◌∙◌, ap, subst}
 use mathlib.Core.List.{List, ◌++◌}
-use Prim.Native.Nat.{ℕ, ◌-◌, ◌<◌}
+use Prim.Native.Nat.{ℕ, ◌<◌}
 use native.Mathlib.Omega.{arith}
 use lib.ListN.{length, take, drop, get_or, set, length-set}
 use Rattle.grid.proofs.CellLaws.{front_more}
@@ -24,13 +24,12 @@ pub bounds-to-k : goal.bounds-to-k
 bounds-to-k c = omega (arith, c.requires)
 
 pub loop-k-preserved : goal.loop-k-preserved
-loop-k-preserved c =
-    (
-      omega arith,
-      simp length-set c.loop-k.invariant.1,
-      ap (λ (l : List ℕ). set l c.loop-k.k (get_or c.args.from.now c.loop-k.k 0)) c.loop-k.invariant.2
-          ∙ front_more c.args.to.now c.args.from.now c.loop-k.k (omega (arith, c.requires)) (omega (arith, c.requires)),
-    )
+loop-k-preserved c = (
+  omega arith,
+  simp length-set c.loop-k.invariant.1,
+  ap (λ (l : List ℕ). set l c.loop-k.k (get_or c.args.from.now c.loop-k.k 0)) c.loop-k.invariant.2
+      ∙ front_more c.args.to.now c.args.from.now c.loop-k.k (omega (arith, c.requires)) (omega (arith, c.requires)),
+)
 
 pub shape_of-to : goal.shape_of-to
 shape_of-to c = c.loop-k.invariant.1

@@ -1,6 +1,5 @@
 -- No cell passed so far is unlike its mirror.
 use mathlib.Core.Path.{◌≡◌, sym, ◌∙◌, subst}
-use Prim.Native.Nat.{◌-◌}
 use Rattle.relation.proofs.Tested.{NoneBelow, some_yes, some_no}
 use Rattle.grid.proofs.UnlikeLaws.{above, above_begins, above_more, above_found}
 use native.Mathlib.Omega.{arith}

@@ -1,7 +1,7 @@
 -- Whether one of the cells passed so far is above 8191.
 use mathlib.Core.Path.{◌≡◌, refl, ap, ◌∙◌}
 use mathlib.Core.Bool.{Bool, ◌||◌}
-use Prim.Native.Nat.{ℕ, ◌-◌}
+use Prim.Native.Nat.{ℕ}
 use lib.ListN.{length}
 use Rattle.relation.specs.Sets.{some}
 use Rattle.relation.proofs.Tested.{some_next}

@@ -1,7 +1,6 @@
 -- No diagonal cell passed so far is anything but {eq}.
 use mathlib.Core.Path.{◌≡◌, sym, ap, ◌∙◌, subst}
 use mathlib.Core.Bool.{not}
-use Prim.Native.Nat.{◌-◌}
 use borrow.Author.Tests.{eq-eqb, ne_eqb}
 use Rattle.relation.proofs.Tested.{NoneBelow, none_more, some_yes, some_no}
 use Rattle.grid.specs.Accepted.{not_eq}

@@ -1,8 +1,5 @@
 -- No row passed so far has a cell unlike its mirror.
 use mathlib.Core.Path.{◌≡◌, sym, ◌∙◌, subst}
-use Prim.Native.Nat.{◌-◌}
-use Rattle.relation.specs.Sets.{some}
-use Rattle.grid.specs.Accepted.{some_unlike}
 use Rattle.grid.specs.Steps.{above_unlike}
 use Rattle.grid.proofs.UnlikeLaws.{above_enough}
 use Rattle.relation.proofs.Tested.{NoneBelow, none_more, some_yes, some_no}

@@ -1,5 +1,5 @@
 -- The counts of the ends passed so far are in their places.
-use Prim.Native.Nat.{◌-◌, ◌<◌}
+use Prim.Native.Nat.{◌<◌}
 use lib.ListN.{length, length-set}
 use Rattle.placing.proofs.FillLaws.{filled_more}
 use Rattle.placing.specs.Settling.{ends_before}

@@ -1,6 +1,6 @@
 -- So many of the ends passed so far are before end p.
 use mathlib.Core.Path.{◌≡◌, sym, ap, ◌∙◌}
-use Prim.Native.Nat.{ℕ, ◌-◌, ◌*◌}
+use Prim.Native.Nat.{ℕ, ◌*◌}
 use Rattle.placing.specs.Settling.{end_before, count, ends_before}
 use Rattle.placing.proofs.CountLaws.{count_none, count-step}
 use borrow.Author.Rules.{rules}

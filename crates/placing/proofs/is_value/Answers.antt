@@ -1,6 +1,5 @@
 -- None of the counts passed so far is v.
 use mathlib.Core.Path.{◌≡◌, sym, subst}
-use Prim.Native.Nat.{◌-◌}
 use lib.Dec.{eqb}
 use lib.ListN.{get_or}
 use borrow.Author.Tests.{eq-eqb, ne_eqb}

@@ -1,6 +1,6 @@
 -- Each number so far is how many different counts are below that of its end.
 use mathlib.Core.Path.{ap, ◌∙◌}
-use Prim.Native.Nat.{◌-◌, ◌<◌}
+use Prim.Native.Nat.{◌<◌}
 use lib.ListN.{length, length-set}
 use lib.IntN.{pos}
 use mir.Syntax.{w32}

@@ -1,7 +1,7 @@
 -- No cell of the row passed so far is missed.
 use mathlib.Core.Path.{◌≡◌, sym, ap, ap₂, subst, ◌∙◌}
 use mathlib.Core.Bool.{not}
-use Prim.Native.Nat.{ℕ, ◌-◌, ◌<◌}
+use Prim.Native.Nat.{ℕ, ◌<◌}
 use Rattle.relation.specs.Sets.{member}
 use Rattle.relation.proofs.Tested.{NoneBelow, none_more, some_yes, some_no}
 use Rattle.placing.specs.Placing.{at}

@@ -1,7 +1,7 @@
 -- No start passed so far is late.
 use mathlib.Core.Path.{◌≡◌, sym, ap, subst, ◌∙◌}
 use mathlib.Core.Bool.{not}
-use Prim.Native.Nat.{◌+◌, ◌*◌, ◌-◌}
+use Prim.Native.Nat.{◌+◌, ◌*◌}
 use Rattle.relation.proofs.Tested.{NoneBelow, none_more, some_yes, some_no}
 use Rattle.placing.specs.Placing.{at}
 use Rattle.placing.specs.Checking.{late}

@@ -1,6 +1,5 @@
 -- No row passed so far has a missed cell.
 use mathlib.Core.Path.{◌≡◌, sym, subst, ◌∙◌}
-use Prim.Native.Nat.{◌-◌}
 use Rattle.relation.proofs.Tested.{NoneBelow, none_more, some_yes, some_no}
 use Rattle.placing.specs.Placing.{at}
 use Rattle.placing.specs.Settling.{row_missed}

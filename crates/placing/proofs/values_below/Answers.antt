@@ -1,7 +1,7 @@
 -- Each place so far holds how many different counts are below it; the next one more where v is a count.
 use mathlib.Core.Path.{◌≡◌, refl, sym, ap, ◌∙◌}
 use mathlib.Core.List.{List}
-use Prim.Native.Nat.{ℕ, ◌+◌, ◌-◌, ◌<◌}
+use Prim.Native.Nat.{ℕ, ◌+◌, ◌<◌}
 use lib.ListN.{length, get_or, replicate, length-set}
 use Rattle.placing.proofs.FillLaws.{Filled, filled_more}
 use Rattle.placing.specs.Settling.{values_below}

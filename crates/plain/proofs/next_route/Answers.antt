@@ -1,6 +1,5 @@
 -- The routes from the first event on leave their cell as it is, up to where it stands.
 use mathlib.Core.Path.{sym, ◌∙◌}
-use Prim.Native.Nat.{◌-◌}
 use Rattle.theory.proofs.AllenLaws.{left_is}
 use Rattle.plain.proofs.RouteLaws.{still-from, still-more, finds_end}
 use Rattle.plain.proofs.next_route.Goals as goal

@@ -12,8 +12,7 @@ use borrow.Author.Rules.{rules}
 use Rattle.plain.proofs.sweep_accepted.Goals as goal
 
 pub returns-then-some_empty : goal.returns-then-some_empty
-returns-then-some_empty c =
-    (
+returns-then-some_empty c = (
   inl (sym c.some_empty.ensures ∙ c.if-some_empty.true),
   c.clear.ensures ∙ ap (λ (k : ℕ). replicate k 0) c.requires.long,
 )
@@ -25,11 +24,10 @@ pub sweep_all-one-requires : goal.sweep_all-one-requires
 sweep_all-one-requires c = cuts_fair _ lawful _ _ (fair _ _ c.requires (sym c.some_empty.ensures ∙ c.if-some_empty.false)) c.loop-changed.invariant.1
 
 pub returns-in_default : goal.returns-in_default
-returns-in_default c =
-    (
-      inr (dead_then _ _ _ _ c.loop-changed.invariant.1 (pass_dead _ _ _ _ _ c.sweep_all-one.ensures c.in_default.is)),
-      c.clear-in_default.ensures ∙ ap (λ (k : ℕ). replicate k 0) (c.sweep_all-one.auto.g ∙ c.loop-changed.invariant.0 ∙ c.requires.long),
-    )
+returns-in_default c = (
+  inr (dead_then _ _ _ _ c.loop-changed.invariant.1 (pass_dead _ _ _ _ _ c.sweep_all-one.ensures c.in_default.is)),
+  c.clear-in_default.ensures ∙ ap (λ (k : ℕ). replicate k 0) (c.sweep_all-one.auto.g ∙ c.loop-changed.invariant.0 ∙ c.requires.long),
+)
 
 pub returns-then-not-changed : goal.returns-then-not-changed
 returns-then-not-changed c =

@@ -1,6 +1,6 @@
 -- The routes so far, those passed over, and then one that cuts. Where nothing is said of m to b, each is passed over.
 use mathlib.Core.Path.{sym, ◌∙◌, subst}
-use Prim.Native.Nat.{ℕ, ◌-◌}
+use Prim.Native.Nat.{ℕ}
 use lib.Count.{ones}
 use Rattle.theory.specs.Allen.{allen}
 use Rattle.theory.specs.Sweeps.{Progress}
@@ -24,13 +24,12 @@ returns-then-half-eq-ALL c =
     (λ x y z u. past_second _ _ c.requires.2 x y z u.3.ha u.3.hc u.3.hb (rw (u.1, u.2) (sym c.get-half.ensures ∙ c.if-half-eq-ALL.true)))
 
 pub loop-rows-init : goal.loop-rows-init
-loop-rows-init c =
-    (
-      omega arith,
-      search rules,
-      nothing _ _ _ c.requires.2 (λ x y z u. absurd (omega (arith, u.0))),
-      record { right = c.rows_of-rows.ensures.1; set = c.rows_of-rows.ensures.0 ∙ c.get-half.ensures },
-    )
+loop-rows-init c = (
+  omega arith,
+  search rules,
+  nothing _ _ _ c.requires.2 (λ x y z u. absurd (omega (arith, u.0))),
+  record { right = c.rows_of-rows.ensures.1; set = c.rows_of-rows.ensures.0 ∙ c.get-half.ensures },
+)
 
 pub next_route-found-requires : goal.next_route-found-requires
 next_route-found-requires c = (c.loop-rows.invariant.3, c.requires.0, c.requires.1, c.loop-rows.invariant.0, record { few = c.requires.2.fine.few; fits = omega (arith, c.requires.2.fine.fits, c.loop-rows.invariant.1) })

@@ -1,6 +1,5 @@
 -- Row after row joins, and the rows before row n are all.
 use mathlib.Core.Path.{◌≡◌, sym, ◌∙◌, ap}
-use Prim.Native.Nat.{◌-◌}
 use Rattle.theory.specs.Line.{rows_to}
 use Rattle.theory.proofs.StartLaws.{rows_none, rows_all}
 use Rattle.takes.proofs.WaitingLaws.{empty_queue}

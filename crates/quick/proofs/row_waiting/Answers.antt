@@ -1,6 +1,5 @@
 -- The rows before and the pairs of this row so far wait, and the next pair joins the end because it does not wait yet.
 use mathlib.Core.Path.{◌≡◌, sym, ◌∙◌, ap}
-use Prim.Native.Nat.{◌-◌}
 use Rattle.theory.specs.Line.{joins}
 use Rattle.theory.proofs.StartLaws.{rows_and, rows_begin, rows_end, rows_join}
 use native.Mathlib.Omega.{arith}
@@ -19,13 +18,12 @@ pub join-at-requires : goal.join-at-requires
 join-at-requires c = (c.requires.0, (omega (arith, c.requires.0, c.loop-j.invariant), omega (arith, c.requires.0, c.loop-j.invariant)), c.loop-j.invariant.2)
 
 pub loop-j-preserved : goal.loop-j-preserved
-loop-j-preserved c =
-    (
-      omega arith,
-      omega arith,
-      c.join-at.ensures.waits,
-      c.join-at.ensures.joined ∙ ap (joins _) c.loop-j.invariant.3 ∙ rows_join _ _ _ c.requires.0 c.loop-j.invariant.0 c.loop-j-test.true,
-    )
+loop-j-preserved c = (
+  omega arith,
+  omega arith,
+  c.join-at.ensures.waits,
+  c.join-at.ensures.joined ∙ ap (joins _) c.loop-j.invariant.3 ∙ rows_join _ _ _ c.requires.0 c.loop-j.invariant.0 c.loop-j-test.true,
+)
 
 pub returns : goal.returns
 returns c =

@@ -2,7 +2,7 @@
 use mathlib.Core.Bool.{cond}
 use mathlib.Core.Path.{◌≡◌, ap, ap₂, ◌∙◌}
 use mathlib.Core.List.{List, [], ◌∷◌}
-use Prim.Native.Nat.{ℕ, ◌-◌, ◌%◌, ◌^◌}
+use Prim.Native.Nat.{ℕ, ◌%◌, ◌^◌}
 use lib.Bits.{bit_or}
 use lib.Dec.{eqb, eqb→eq}
 use lib.ListN.{get_or}

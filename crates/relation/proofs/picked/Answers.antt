@@ -4,7 +4,6 @@ use Prim.Native.Nat.{ℕ}
 use lib.Bits.{bit_or, or_zero_l, or_zero_r}
 use Rattle.relation.specs.Sets.{member}
 use Rattle.relation.proofs.PackedLaws.{picked_by, the_last}
-use native.Mathlib.Omega.{arith}
 use borrow.Author.Rules.{rules}
 use Rattle.relation.proofs.picked.Goals as goal
 

@@ -1,7 +1,6 @@
 -- The relations left at a cell, from the grid as it stood, come to the whole; the call for the next cell has fewer cells left.
 use mathlib.Core.Path.{refl, sym, ap, ◌∙◌}
-use mathlib.Core.Logic.{⊎_elim}
-use Prim.Native.Nat.{ℕ, ◌*◌, ◌-◌, ◌<◌}
+use Prim.Native.Nat.{◌*◌}
 use native.Mathlib.Omega.{arith}
 use borrow.Author.Rules.{rules}
 use lib.ListN.{length, take}
@@ -35,19 +34,21 @@ get-requires t c =
 
 pub returns-then-used-allowance : goal.returns-then-used-allowance
 returns-then-used-allowance t c =
-    let there = there-is _ _ _ _ _ _ _ _ c.get.ensures c.has.ensures c.if-has.true in record { shows = shows_passed _ _ _ _ _ _ _ _ c.pass_decided-at.ensures
-          (shows_gave_up _ _ _ _ _ _ _ c.loop-r.invariant.2 c.loop-r.invariant.1 c.came_to.ensures.1 (sym c.loop-r.invariant.3 ∙ from_spent _ _ _ _ _ _ _ _ c.loop-r-test.true there c.if-used-allowance.true) c.came_to.ensures.0); idle = c.loop-r.invariant.4 }
+    let there = there-is _ _ _ _ _ _ _ _ c.get.ensures c.has.ensures c.if-has.true in record {
+      shows = shows_passed _ _ _ _ _ _ _ _ c.pass_decided-at.ensures
+          (shows_gave_up _ _ _ _ _ _ _ c.loop-r.invariant.2 c.loop-r.invariant.1 c.came_to.ensures.1 (sym c.loop-r.invariant.3 ∙ from_spent _ _ _ _ _ _ _ _ c.loop-r-test.true there c.if-used-allowance.true) c.came_to.ensures.0);
+      idle = c.loop-r.invariant.4;
+    }
 
 pub slice_bounds-attempt-end : goal.slice_bounds-attempt-end
 slice_bounds-attempt-end t c = sym c.loop-r.invariant.5
 
 pub attempt-answer-requires : goal.attempt-answer-requires
-attempt-answer-requires t c =
-    (
-      c.loop-r.invariant.4,
-      triable _ _ _ _ _ c.requires.2 c.pass_decided-at.ensures.stands (omega (arith, c.if-at-eq0.false)) c.loop-r-test.true (there-is _ _ _ _ _ _ _ _ c.get.ensures c.has.ensures c.if-has.true),
-      record { few = c.requires.1.at.few; fits = omega (arith, c.loop-r.invariant.5, (square _ c.requires.1.at.few).1) },
-    )
+attempt-answer-requires t c = (
+  c.loop-r.invariant.4,
+  triable _ _ _ _ _ c.requires.2 c.pass_decided-at.ensures.stands (omega (arith, c.if-at-eq0.false)) c.loop-r-test.true (there-is _ _ _ _ _ _ _ _ c.get.ensures c.has.ensures c.if-has.true),
+  record { few = c.requires.1.at.few; fits = omega (arith, c.loop-r.invariant.5, (square _ c.requires.1.at.few).1) },
+)
 
 pub loop-r-preserved-in_default : goal.loop-r-preserved-in_default
 loop-r-preserved-in_default t c =
@@ -88,33 +89,39 @@ shape_of-room-in_default-said t c = c.look-below.auto.room ∙ ap length c.loop-
 pub returns-in_default-said : goal.returns-in_default-said
 returns-in_default-said t c =
     let there = there-is _ _ _ _ _ _ _ _ c.get.ensures c.has.ensures c.if-has.true in
-    let next = shows_next _ _ _ _ c.step-stand.ensures _ _ _ _ _ c.look-below.ensures.shows in record { shows = shows_passed _ _ _ _ _ _ _ _ c.pass_decided-at.ensures
-          (turn-kept _ _ _ _ _ _ _ _ _ c.loop-r-test.true there c.if-used-allowance.false c.attempt-answer.ensures.tried _ _ _ _ c.in-Closed.is next (search rules) _ _ c.loop-r.invariant.3 c.loop-r.invariant.2); idle = c.look-below.ensures.idle }
+    let next = shows_next _ _ _ _ c.step-stand.ensures _ _ _ _ _ c.look-below.ensures.shows in record {
+      shows = shows_passed _ _ _ _ _ _ _ _ c.pass_decided-at.ensures
+          (turn-kept _ _ _ _ _ _ _ _ _ c.loop-r-test.true there c.if-used-allowance.false c.attempt-answer.ensures.tried _ _ _ _ c.in-Closed.is next (search rules) _ _ c.loop-r.invariant.3 c.loop-r.invariant.2);
+      idle = c.look-below.ensures.idle;
+    }
 
 pub loop-r-preserved : goal.loop-r-preserved
 loop-r-preserved t c =
     elim c.if-has.branch [
-      then-has+else-used-allowance+in-Closed+in-None w ↦
-        let below = shows_next _ _ _ _ w.step-stand.ensures _ _ _ _ _ w.look-below.ensures.shows in
-        let turn = turn-none _ _ _ _ _ _ _ _ _ c.loop-r-test.true (there-is _ _ _ _ _ _ _ _ c.get.ensures c.has.ensures w.if-has.true) w.if-used-allowance.false w.attempt-answer.ensures.tried _ _ _ _ w.in-Closed.is below w.in-None.is _ w.used-is in (
-          search rules,
-          omega (arith, w.look-below.ensures.shows.within, w.used-is),
-          w.room-is ∙ turn.1 ∙ c.loop-r.invariant.2,
-          sym turn.0 ∙ c.loop-r.invariant.3,
-          rw (w.ring-is, w.flag-is) w.look-below.ensures.idle,
-          ap length w.work-is ∙ w.attempt-answer.auto.cut ∙ c.loop-r.invariant.5,
-        )
+      | then-has+else-used-allowance+in-Closed+in-None w ↦
+          let below = shows_next _ _ _ _ w.step-stand.ensures _ _ _ _ _ w.look-below.ensures.shows in
+          let turn = turn-none _ _ _ _ _ _ _ _ _ c.loop-r-test.true (there-is _ _ _ _ _ _ _ _ c.get.ensures c.has.ensures w.if-has.true) w.if-used-allowance.false w.attempt-answer.ensures.tried _ _ _ _ w.in-Closed.is below w.in-None.is _ w.used-is in (
+            search rules,
+            omega (arith, w.look-below.ensures.shows.within, w.used-is),
+            w.room-is ∙ turn.1 ∙ c.loop-r.invariant.2,
+            sym turn.0 ∙ c.loop-r.invariant.3,
+            rw (w.ring-is, w.flag-is) w.look-below.ensures.idle,
+            ap length w.work-is ∙ w.attempt-answer.auto.cut ∙ c.loop-r.invariant.5,
+          )
       | else-has w ↦ (
-          search rules,
-          omega (arith, w.used-is, c.loop-r.invariant.1),
-          w.room-is ∙ c.loop-r.invariant.2,
-          sym (from_past _ _ _ _ _ _ _ _ _ c.loop-r-test.true (there-is _ _ _ _ _ _ _ _ c.get.ensures c.has.ensures w.if-has.false) w.used-is) ∙ c.loop-r.invariant.3,
-          rw (w.ring-is, w.flag-is) c.loop-r.invariant.4,
-          ap length w.work-is ∙ c.loop-r.invariant.5,
-        )
+        search rules,
+        omega (arith, w.used-is, c.loop-r.invariant.1),
+        w.room-is ∙ c.loop-r.invariant.2,
+        sym (from_past _ _ _ _ _ _ _ _ _ c.loop-r-test.true (there-is _ _ _ _ _ _ _ _ c.get.ensures c.has.ensures w.if-has.false) w.used-is) ∙ c.loop-r.invariant.3,
+        rw (w.ring-is, w.flag-is) c.loop-r.invariant.4,
+        ap length w.work-is ∙ c.loop-r.invariant.5,
+      )
     ]
 
 pub returns : goal.returns
 returns t c =
-    record { shows = shows_passed _ _ _ _ _ _ _ _ c.pass_decided-at.ensures
-          (shows_none _ _ _ _ _ _ _ c.loop-r.invariant.2 c.loop-r.invariant.1 c.came_to-2.ensures.1 (sym c.loop-r.invariant.3 ∙ from_end _ _ _ _ _ _ _ _ c.loop-r-test.false) c.came_to-2.ensures.0); idle = c.loop-r.invariant.4 }
+    record {
+      shows = shows_passed _ _ _ _ _ _ _ _ c.pass_decided-at.ensures
+          (shows_none _ _ _ _ _ _ _ c.loop-r.invariant.2 c.loop-r.invariant.1 c.came_to-2.ensures.1 (sym c.loop-r.invariant.3 ∙ from_end _ _ _ _ _ _ _ _ c.loop-r-test.false) c.came_to-2.ensures.0);
+      idle = c.loop-r.invariant.4;
+    }

@@ -29,5 +29,8 @@ pub returns : goal.returns
 returns c =
     let m = c.args.n * c.args.n in
     let fits : m ≤ length c.copy.new.to = omega (arith, c.copy.auto.to, c.requires.2.fits) in
-    let same : take m c.copy.new.to ≡ c.args.g.now = ap (take m) c.copy.ensures ∙ copied_front c.args.g.now c.args.cut.now m c.requires.1.grid.accepted.long in record { tried = ap (λ (l : List ℕ). tried_by (ended c.close_pair.result l)) (take_at _ _ _ (c.close_pair.auto.g ∙ length-take-le m c.copy.new.to fits))
-          ∙ c.close_pair.ensures.closed ∙ try_made _ _ _ c.args.r _ _ c.mark-set.ensures ∙ ap (try_at c.args.n (c.args.i, c.args.j) c.args.r) same; idle = c.close_pair.ensures.idle }
+    let same : take m c.copy.new.to ≡ c.args.g.now = ap (take m) c.copy.ensures ∙ copied_front c.args.g.now c.args.cut.now m c.requires.1.grid.accepted.long in record {
+      tried = ap (λ (l : List ℕ). tried_by (ended c.close_pair.result l)) (take_at _ _ _ (c.close_pair.auto.g ∙ length-take-le m c.copy.new.to fits))
+          ∙ c.close_pair.ensures.closed ∙ try_made _ _ _ c.args.r _ _ c.mark-set.ensures ∙ ap (try_at c.args.n (c.args.i, c.args.j) c.args.r) same;
+      idle = c.close_pair.ensures.idle;
+    }

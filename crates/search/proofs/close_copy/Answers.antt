@@ -26,5 +26,8 @@ pub returns : goal.returns
 returns c =
     let m = c.args.n * c.args.n in
     let fits : m ≤ length c.copy.new.to = omega (arith, c.copy.auto.to, c.requires.3.fits) in
-    let same : take m c.copy.new.to ≡ c.args.g.now = ap (take m) c.copy.ensures ∙ copied_front c.args.g.now c.args.work.now m c.requires.1 in record { closed = ap (λ (l : List ℕ). tried_by (ended c.close_all.result l)) (take_at _ _ _ (c.close_all.auto.g ∙ length-take-le m c.copy.new.to fits))
-          ∙ c.close_all.ensures.closed ∙ ap (closes_to allen c.args.n) same; idle = c.close_all.ensures.idle }
+    let same : take m c.copy.new.to ≡ c.args.g.now = ap (take m) c.copy.ensures ∙ copied_front c.args.g.now c.args.work.now m c.requires.1 in record {
+      closed = ap (λ (l : List ℕ). tried_by (ended c.close_all.result l)) (take_at _ _ _ (c.close_all.auto.g ∙ length-take-le m c.copy.new.to fits))
+          ∙ c.close_all.ensures.closed ∙ ap (closes_to allen c.args.n) same;
+      idle = c.close_all.ensures.idle;
+    }

@@ -39,13 +39,12 @@ pub slice_bounds-look-end : goal.slice_bounds-look-end
 slice_bounds-look-end c = sym (length-take-le _ _ (omega (arith, c.close_copy-first.auto.work, (square _ c.requires.0.few).1)))
 
 pub look-requires : goal.look-requires
-look-requires c =
-    (
-      c.close_copy-first.ensures.idle,
-      record { at = at_first _ c.requires.0.few; within = omega arith },
-      first_searched _ _ c.requires.0 c.close_copy-first.result _ (take (c.args.n * c.args.n) c.close_copy-first.new.work) c.close_copy-first.ensures.closed c.in-Closed.is,
-      c.requires.1,
-    )
+look-requires c = (
+  c.close_copy-first.ensures.idle,
+  record { at = at_first _ c.requires.0.few; within = omega arith },
+  first_searched _ _ c.requires.0 c.close_copy-first.result _ (take (c.args.n * c.args.n) c.close_copy-first.new.work) c.close_copy-first.ensures.closed c.in-Closed.is,
+  c.requires.1,
+)
 
 pub returns : goal.returns
 returns c =

@@ -1,6 +1,6 @@
 -- The cuts from the first event on come to those from where it stands.
 use mathlib.Core.Path.{◌≡◌, subst}
-use Prim.Native.Nat.{◌+◌, ◌-◌, ◌*◌}
+use Prim.Native.Nat.{◌+◌, ◌*◌}
 use Rattle.theory.proofs.AllenLaws.{left_is}
 use Rattle.takes.specs.Steps.{Passes}
 use Rattle.takes.proofs.StepsLaws.{first_quiet, first-changes, second_quiet, second-changes, passes_none, passes-more, finds_end}

@@ -12,8 +12,10 @@ returns-then-set-kj c =
 
 pub returns : goal.returns
 returns c =
-    elim c.if-c-eq1.branch [ then-c-eq1+else-set-kj w ↦ 
-        odd_finds _ _ _ _ _ _ _ c.cut_from.ensures w.if-c-eq1.true (omega (arith, w.if-c-eq1.true, c.requires.3))
-        (second_quiet _ _ _ _ _ c.requires.4 c.requires.1 c.requires.2 (omega (arith, w.if-c-eq1.true, c.requires.3)) _ _
-        (left_is _ _ _ _ _ _ _ _ _ w.get-kj.ensures w.get-ki.ensures c.requires.0.there.set w.compose_by.ensures) w.get-kj.ensures w.if-set-kj.false)
-      | else-c-eq1 w ↦ even_finds _ _ _ _ _ _ _ c.cut_from.ensures w.if-c-eq1.false ]
+    elim c.if-c-eq1.branch [
+      | then-c-eq1+else-set-kj w ↦
+          odd_finds _ _ _ _ _ _ _ c.cut_from.ensures w.if-c-eq1.true (omega (arith, w.if-c-eq1.true, c.requires.3))
+          (second_quiet _ _ _ _ _ c.requires.4 c.requires.1 c.requires.2 (omega (arith, w.if-c-eq1.true, c.requires.3)) _ _
+          (left_is _ _ _ _ _ _ _ _ _ w.get-kj.ensures w.get-ki.ensures c.requires.0.there.set w.compose_by.ensures) w.get-kj.ensures w.if-set-kj.false)
+      | else-c-eq1 w ↦ even_finds _ _ _ _ _ _ _ c.cut_from.ensures w.if-c-eq1.false
+    ]

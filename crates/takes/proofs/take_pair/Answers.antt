@@ -1,6 +1,5 @@
 -- The cuts left, from the grid and list as they are, come to the whole take. Where nothing is said of the pair, there is nothing to do.
 use mathlib.Core.Path.{sym, ◌∙◌}
-use Prim.Native.Nat.{◌-◌}
 use Rattle.theory.specs.Allen.{allen}
 use Rattle.theory.proofs.AllenLaws.{lawful}
 use Rattle.theory.proofs.FairLaws.{fair_good, good_fair}
@@ -38,10 +37,13 @@ make_cut-one-requires c =
 
 pub returns-in_default : goal.returns-in_default
 returns-in_default c =
-    record { steps = record {
+    record {
+      steps = record {
         same = sym (cuts-dead _ _ _ _ _ _ _ (found_below _ _ _ _ _ _ _ c.next_cut-found.ensures c.if-next-n.false) (is-dead _ _ _ _ _ _ c.make_cut-one.ensures c.in_default.is)) ∙ sym (c.next_cut-found.ensures.passes.same _) ∙ c.loop-v.invariant.3;
         sound = has_room _ _ _ _ _ _ c.make_cut-one.ensures c.in_default.is;
-      }; fair = tt }
+      };
+      fair = tt;
+    }
 
 pub overflow_add-c : goal.overflow_add-c
 overflow_add-c c = omega (arith, c.next_cut-found.ensures.passes.within, c.requires.3.fine.few)

@@ -1,6 +1,6 @@
 -- The takes left, from the grid and list as they are, come to the whole run.
 use mathlib.Core.Path.{◌≡◌, ap, sym, ◌∙◌}
-use Prim.Native.Nat.{◌<◌, ◌-◌}
+use Prim.Native.Nat.{◌<◌}
 use Rattle.theory.proofs.StepLaws.{rest, rest_all, rest-dead, rest-going}
 use Rattle.takes.proofs.StepsLaws.{is-dead, has_room, is-going, is-sound, going_fair, stopped, finished}
 use Rattle.takes.proofs.WaitingLaws.{cleared, all_left}
@@ -35,19 +35,21 @@ clear_flags-requires-in_default c = (has_room _ _ _ _ _ _ c.take_pair-one.ensure
 
 pub returns-in_default : goal.returns-in_default
 returns-in_default c =
-    record { end = sym (rest-dead _ _ _ _ _ _ _ (omega (arith, c.loop-at.invariant.0, c.if-t-limit.false)) (is-dead _ _ _ _ _ _ c.take_pair-one.ensures.steps c.in_default.is))
-          ∙ sym (ap (rest _ _ _ _ _) c.leave-first.ensures.was) ∙ c.loop-at.invariant.3; idle = cleared _ _ _ (has_room _ _ _ _ _ _ c.take_pair-one.ensures.steps c.in_default.is).0 c.clear_flags-in_default.ensures }
+    record {
+      end = sym (rest-dead _ _ _ _ _ _ _ (omega (arith, c.loop-at.invariant.0, c.if-t-limit.false)) (is-dead _ _ _ _ _ _ c.take_pair-one.ensures.steps c.in_default.is))
+          ∙ sym (ap (rest _ _ _ _ _) c.leave-first.ensures.was) ∙ c.loop-at.invariant.3;
+      idle = cleared _ _ _ (has_room _ _ _ _ _ _ c.take_pair-one.ensures.steps c.in_default.is).0 c.clear_flags-in_default.ensures;
+    }
 
 pub loop-at-preserved : goal.loop-at-preserved
-loop-at-preserved c =
-    (
-      omega (arith, c.loop-at.invariant.0, c.if-t-limit.false),
-      search rules,
-      is-sound _ _ _ _ _ _ c.take_pair-one.ensures.steps _ c.in-Going.is,
-      sym (rest-going _ _ _ _ _ _ _ (omega (arith, c.loop-at.invariant.0, c.if-t-limit.false)) _ _ (is-going _ _ _ _ _ _ c.take_pair-one.ensures.steps _ c.in-Going.is))
-          ∙ sym (ap (rest _ _ _ _ _) c.leave-first.ensures.was) ∙ c.loop-at.invariant.3,
-      going_fair _ _ _ _ c.in-Going.is c.take_pair-one.ensures.fair,
-    )
+loop-at-preserved c = (
+  omega (arith, c.loop-at.invariant.0, c.if-t-limit.false),
+  search rules,
+  is-sound _ _ _ _ _ _ c.take_pair-one.ensures.steps _ c.in-Going.is,
+  sym (rest-going _ _ _ _ _ _ _ (omega (arith, c.loop-at.invariant.0, c.if-t-limit.false)) _ _ (is-going _ _ _ _ _ _ c.take_pair-one.ensures.steps _ c.in-Going.is))
+      ∙ sym (ap (rest _ _ _ _ _) c.leave-first.ensures.was) ∙ c.loop-at.invariant.3,
+  going_fair _ _ _ _ c.in-Going.is c.take_pair-one.ensures.fair,
+)
 
 pub returns : goal.returns
 returns c = record { end = sym (finished _ _ _ _ _ _ _ c.loop-at-test.false) ∙ c.loop-at.invariant.3; idle = all_left _ _ _ _ _ c.loop-at-test.false c.loop-at.invariant.2 }

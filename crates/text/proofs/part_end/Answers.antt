@@ -1,5 +1,4 @@
 -- The first c from a on is the first c from i on: none stands between.
-use Prim.Native.Nat.{◌-◌}
 use native.Mathlib.Omega.{arith}
 use Rattle.text.proofs.PartLaws.{part_end, until_stop, until_more, until_end}
 use Rattle.text.proofs.part_end.Goals as goal

@@ -1,6 +1,5 @@
 -- Two texts of one length are the same exactly if they are from i on: before i they agree.
 use mathlib.Core.Path.{sym, ◌∙◌}
-use Prim.Native.Nat.{◌-◌}
 use native.Mathlib.Omega.{arith}
 use Rattle.text.proofs.TextLaws.{same_step, same_differ, same_end, same_lengths}
 use borrow.Author.Rules.{rules}
@@ -13,12 +12,11 @@ pub returns-then-a-i : goal.returns-then-a-i
 returns-then-a-i c = sym (c.loop-i.invariant.2 ∙ same_differ c.args.a.now c.args.b.now c.loop-i.i (omega arith) (omega arith) c.if-a-i.true)
 
 pub loop-i-preserved : goal.loop-i-preserved
-loop-i-preserved c =
-    (
-      omega arith,
-      search rules,
-      c.loop-i.invariant.2 ∙ same_step c.args.a.now c.args.b.now c.loop-i.i (omega arith) (omega arith) (cc),
-    )
+loop-i-preserved c = (
+  omega arith,
+  search rules,
+  c.loop-i.invariant.2 ∙ same_step c.args.a.now c.args.b.now c.loop-i.i (omega arith) (omega arith) (cc),
+)
 
 pub returns : goal.returns
 returns c = sym (c.loop-i.invariant.2 ∙ same_end c.args.a.now c.args.b.now c.loop-i.i (omega arith) (omega arith))

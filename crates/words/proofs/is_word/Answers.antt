@@ -1,6 +1,6 @@
 -- As many letters, and from i on the same ones: before i they agree.
 use mathlib.Core.Path.{refl, sym, ◌∙◌}
-use Prim.Native.Nat.{◌-◌, ◌<◌}
+use Prim.Native.Nat.{◌<◌}
 use lib.ListN.{length}
 use native.Mathlib.Omega.{arith}
 use Rattle.text.proofs.TextLaws.{same_step, same_differ, same_end, same_lengths}

@@ -1,7 +1,7 @@
 -- The first word that is written so is the first from k on: none before k is.
 use mathlib.Core.Path.{refl, sym, ◌∙◌, ap}
 use mathlib.Core.List.{List}
-use Prim.Native.Nat.{ℕ, ◌-◌}
+use Prim.Native.Nat.{ℕ}
 use native.Mathlib.Omega.{arith}
 use lib.ListN.{get_or}
 use Rattle.words.specs.Words.{words, meaning}
@@ -24,13 +24,12 @@ returns-then-is_word c =
     ∙ word_hit words c.args.w.now c.loop-k.k (omega (arith, c.loop-k-test.true, seventeen)) (sym c.is_word.ensures ∙ c.if-is_word.true))
 
 pub loop-k-preserved : goal.loop-k-preserved
-loop-k-preserved c =
-    (
-      omega (arith, c.loop-k-test.true),
-      c.loop-k.invariant.1,
-      c.loop-k.invariant.2
-          ∙ word_miss words c.args.w.now c.loop-k.k (omega (arith, c.loop-k-test.true, seventeen)) (sym c.is_word.ensures ∙ c.if-is_word.false),
-    )
+loop-k-preserved c = (
+  omega (arith, c.loop-k-test.true),
+  c.loop-k.invariant.1,
+  c.loop-k.invariant.2
+      ∙ word_miss words c.args.w.now c.loop-k.k (omega (arith, c.loop-k-test.true, seventeen)) (sym c.is_word.ensures ∙ c.if-is_word.false),
+)
 
 pub returns : goal.returns
 returns c = sym (c.loop-k.invariant.2 ∙ word_end words c.args.w.now c.loop-k.k (omega (arith, seventeen)))
