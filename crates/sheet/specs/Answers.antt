@@ -1,6 +1,6 @@
 -- Rules 6 and 7: what the two functions on sheets hand back.
 use Rattle.std.specs.Prelude.{◌≡◌, cond, List, [], ◌∷◌, ◌++◌, ℕ, ◌+◌, ◌*◌, ltb, eqb, length, take, drop, get_or}
-use Rattle.std.specs.Borrow.{MutBor}
+use Rattle.std.specs.Borrow.{Bor}
 use Rattle.refusal.specs.Numbers.{number_of}
 use Rattle.statements.specs.Grid.{grid_of}
 use Rattle.sheet.specs.Sheet.{Outcome, refused, accepted, parts, sheet}
@@ -64,7 +64,7 @@ start_of (refused q line) s i = 0
 start_of (accepted ns cs sts) s i = cond (ltb i (length ns)) (name_start s i) 0
 
 -- a part of the sheet itself: in the same memory, so many bytes after the sheet's first, and so many long
-pub record NamePart (s : MutBor (List ℕ)) (i : ℕ) (part : MutBor (List ℕ)) : Type 0 where
+pub record NamePart (s : Bor (List ℕ)) (i : ℕ) (part : Bor (List ℕ)) : Type 0 where
   pub bytes : part.now ≡ name_of (sheet s.now) i
   pub memory : part.ref_ptr.0 ≡ s.ref_ptr.0
   pub start : part.ref_ptr.1 ≡ start_of (sheet s.now) s.now i + s.ref_ptr.1

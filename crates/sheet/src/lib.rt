@@ -23,7 +23,7 @@ pub const LF: u8 = b'\n';
 const SPACE: u8 = b' ';
 
 // A line of the contents by itself: the length of its name, and its number of statements.
-#[derive(Drop)]
+#[derive(Clone, Copy)]
 enum EntryForm {
     Is(usize, usize),
     Bad,
@@ -66,7 +66,7 @@ fn find_name(s: &[u8], places: &[usize], n: usize, m: &[u8]) -> usize
 }
 
 // A line of the contents: the length of its name, its number of statements, and where the next line begins; or the refusal.
-#[derive(Drop)]
+#[derive(Clone, Copy)]
 enum EntryLine {
     Lists(usize, usize, usize),
     Stop(Refusal),
@@ -102,7 +102,7 @@ pub struct Table {
 }
 
 // Where the next line begins, and its number; or the refusal and its line.
-#[derive(Drop)]
+#[derive(Clone, Copy)]
 enum Place {
     At(usize, usize),
     Refused(Refusal, usize),
@@ -148,7 +148,7 @@ fn contents_of(s: &[u8], n: usize, start: usize) -> Contents
 }
 
 // A statement line by itself: the length of its words, and their set.
-#[derive(Drop)]
+#[derive(Clone, Copy)]
 enum StatementForm {
     Is(usize, u16),
     Bad,
@@ -174,7 +174,7 @@ fn statement_form(l: &[u8]) -> StatementForm
 }
 
 // A statement line: its set, the other event, and where the next line begins; or the refusal.
-#[derive(Drop)]
+#[derive(Clone, Copy)]
 enum StatementLine {
     Says(u16, usize, usize),
     Stop(Refusal),
@@ -238,7 +238,7 @@ fn body_of(
 }
 
 // How many events a sheet has, or the refusal and its line.
-#[derive(Drop)]
+#[derive(Clone, Copy)]
 pub enum SheetAnswer {
     Events(usize),
     Refused(Refusal, usize),
