@@ -2,9 +2,11 @@
 // with stored answers, so the contracts here say only that nothing lies past a room.
 #![tactic(auto)]
 
-ghost use Rattle.std.specs.Prelude.{◌+◌, ◌*◌, ◌≤◌, length};
+ghost use Rattle.std.specs.Prelude.{◌+◌, ◌*◌, ◌≤◌, ◌≡◌, true, false, Ok, OnOk, length, take};
+ghost use Rattle.std.specs.Io.KnownBytes.{Appends, Consumes, IsAtEnd};
 
-use libc::{STDIN_FILENO, STDOUT_FILENO};
+use std::io;
+use std::io::{Read, Write};
 
 // A byte in more bits, and that it is at most 255, so that sums of bytes fit.
 fn wide(x: u8) -> u32
@@ -83,17 +85,33 @@ pub fn write16s(out: &mut [u8], at: usize, cells: &[u16])
     }
 }
 
-// Reads n bytes into the front of the room: whether all came.
-pub fn receive(room: &mut [u8], n: usize) -> bool {
+// Reads n bytes into the front of the room: whether all came. They did not where the room is shorter, and then nothing is read,
+// or where the input ends first. A read that fails ends it with its error.
+pub fn receive<R: Read>(reader: &mut R, room: &mut [u8], n: usize) -> io::Result<bool>
+    ensures fits { result ≡ Ok true → n ≤ length room.new }
+    ensures all { result ≡ Ok true → Consumes (R.remaining reader.old) (R.remaining reader.new) (take n room.new) }
+    ensures short { result ≡ Ok false → n ≤ length room.new → IsAtEnd (R.remaining reader.new) }
+{
     if room.len() < n {
-        return false;
+        return Ok(false);
     }
-    io::read_full(STDIN_FILENO, &mut room[..n]) == n
+    let mut done = 0;
+    while done < n {
+        let more = reader.read(&mut room[done..n])?;
+        if more == 0 {
+            return Ok(false);
+        }
+        done += more;
+    }
+    Ok(true)
 }
 
-// Writes the first n bytes of the room.
-pub fn send(room: &[u8], n: usize) {
+// Writes the first n bytes of the room, or nothing where it is shorter. A write that fails ends it with its error.
+pub fn send<W: Write>(writer: &mut W, room: &[u8], n: usize) -> io::Result<()>
+    ensures written { OnOk result (n ≤ length room.now → Appends (W.contents writer.old) (W.contents writer.new) (take n room.now)) }
+{
     if n <= room.len() {
-        io::write_all(STDOUT_FILENO, &room[..n]);
+        writer.write_all(&room[..n])?;
     }
+    Ok(())
 }

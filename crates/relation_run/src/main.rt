@@ -6,6 +6,8 @@
 ghost use Rattle.std.specs.Prelude.{◌+◌, ◌≤◌, length};
 
 use relation::SetAnswer;
+use std::io;
+use std::io::{Read, Write};
 
 // At most so many cases are answered.
 const MOST: usize = 100000;
@@ -26,26 +28,27 @@ fn write_answer(out: &mut [u8], at: usize, answer: SetAnswer)
 }
 
 // Answers one case: whether there was one.
-fn answered() -> bool {
+fn answered<R: Read, W: Write>(reader: &mut R, writer: &mut W) -> io::Result<bool> {
     let mut case = [0u8; 4];
-    if !cases::receive(&mut case, 4) {
-        return false;
+    if !cases::receive(reader, &mut case, 4)? {
+        return Ok(false);
     }
     let a = cases::read16(&case, 0);
     let b = cases::read16(&case, 2);
     let mut out = [0u8; 6];
     write_answer(&mut out, 0, relation::converse(a));
     write_answer(&mut out, 3, relation::compose(a, b));
-    cases::send(&out, 6);
-    true
+    cases::send(writer, &out, 6)?;
+    Ok(true)
 }
 
-fn main() {
-    let mut k = 0;
-    while k < MOST {
-        if !answered() {
-            return;
+fn main(rt: HostRuntime) -> io::Result<()> {
+    let mut input = rt.stdin();
+    let mut output = rt.stdout();
+    for _ in 0..MOST {
+        if !answered(&mut input, &mut output)? {
+            break;
         }
-        k += 1;
     }
+    Ok(())
 }
