@@ -1,29 +1,29 @@
 // What the programs share: reading a sheet from standard input.
 #![tactic(auto)]
 
-ghost use Rattle.std.specs.Prelude.{◌≤◌, ◌+◌, length};
+ghost use Rattle.std.specs.Prelude.{◌<◌, IfOk, length, take};
+ghost use Rattle.std.specs.Io.{ReadsAtMost};
+ghost use Rattle.std.specs.Io.KnownBytes.{Consumes, IsAtEnd};
 
-use libc::STDIN_FILENO;
+use std::io;
+use std::io::Read;
 
 // One byte more than a sheet may have, so that a longer one is seen as such.
 pub const ROOM: usize = 65537;
 
-// Reads up to the end of the input, or until the room is full: how many bytes came, or one more than the room has
-// where a read failed.
-pub fn read_sheet(room: &mut [u8]) -> usize
-    ensures { result ≤ length room.new + 1 }
+// Reads up to the end of the input, or until the room is full: how many bytes came. A read that fails ends it with its error.
+pub fn read_sheet<R: Read>(reader: &mut R, room: &mut [u8]) -> io::Result<usize>
+    ensures bound { ReadsAtMost result room.new }
+    ensures bytes { IfOk result (λ n. Consumes (R.remaining reader.old) (R.remaining reader.new) (take n room.new)) }
+    ensures end { IfOk result (λ n. n < length room.new → IsAtEnd (R.remaining reader.new)) }
 {
     let mut done = 0;
     while done < room.len() {
-        let got = libc::read(STDIN_FILENO, &mut room[done..]);
-        if got < 0 {
-            return room.len() + 1;
-        }
-        let more = io::count(got, &room[done..]);
+        let more = reader.read(&mut room[done..])?;
         if more == 0 {
-            return done;
+            return Ok(done);
         }
         done += more;
     }
-    done
+    Ok(done)
 }
