@@ -8,6 +8,8 @@ ghost use Rattle.std.specs.Prelude.{◌*◌, ◌≤◌, length};
 
 use plain::PlainAnswer;
 use quick::QuickAnswer;
+use std::io;
+use std::io::{Read, Write};
 
 // At most so many cases are answered, and a case has at most so many cells.
 const MOST: usize = 100000;
@@ -53,62 +55,81 @@ fn told_plain(answer: PlainAnswer) -> Told {
     }
 }
 
-fn send_told(told: Told, cells: &[u16]) {
+fn send_told<W: Write>(writer: &mut W, told: Told, cells: &[u16]) -> io::Result<()> {
     let mut out = [0u8; 5 + 2 * CELLS];
     if CELLS < cells.len() {
-        return;
+        return Ok(());
     }
     cases::write_kind(&mut out, told.kind, told.value);
     cases::write16s(&mut out, 5, cells);
-    cases::send(&out, 5 + 2 * cells.len());
+    cases::send(writer, &out, 5 + 2 * cells.len())
 }
 
 // Closes both copies of the cells and writes both answers.
-fn close_both(bytes: &[u8], cells: &mut [u16], n: usize, limit: usize)
+fn close_both<W: Write>(
+    writer: &mut W,
+    bytes: &[u8],
+    cells: &mut [u16],
+    n: usize,
+    limit: usize,
+) -> io::Result<()>
     requires { 2 * length cells.old ≤ length bytes.now }
 {
     cases::read16s(bytes, cells);
-    send_told(told_quick(quick::quick_close(cells, n, limit)), cells);
+    send_told(
+        writer,
+        told_quick(quick::quick_close(cells, n, limit)),
+        cells,
+    )?;
     cases::read16s(bytes, cells);
-    send_told(told_plain(plain::plain_close(cells, n)), cells);
+    send_told(writer, told_plain(plain::plain_close(cells, n)), cells)
 }
 
 // The same, for the first cells of a longer room.
-fn close_front(bytes: &[u8], cells: &mut [u16], count: usize, n: usize, limit: usize)
+fn close_front<W: Write>(
+    writer: &mut W,
+    bytes: &[u8],
+    cells: &mut [u16],
+    count: usize,
+    n: usize,
+    limit: usize,
+) -> io::Result<()>
     requires { 2 * length cells.old ≤ length bytes.now }
 {
     if count <= cells.len() {
-        close_both(bytes, &mut cells[..count], n, limit);
+        close_both(writer, bytes, &mut cells[..count], n, limit)?;
     }
+    Ok(())
 }
 
 // Answers one case: whether there was one.
-fn answered() -> bool {
+fn answered<R: Read, W: Write>(reader: &mut R, writer: &mut W) -> io::Result<bool> {
     let mut head = [0u8; 12];
-    if !cases::receive(&mut head, 12) {
-        return false;
+    if !cases::receive(reader, &mut head, 12)? {
+        return Ok(false);
     }
     let n = cases::read32(&head, 0) as usize;
     let limit = cases::read32(&head, 4) as usize;
     let count = cases::read32(&head, 8) as usize;
     if CELLS < count {
-        return false;
+        return Ok(false);
     }
     let mut bytes = [0u8; 2 * CELLS];
-    if !cases::receive(&mut bytes, 2 * count) {
-        return false;
+    if !cases::receive(reader, &mut bytes, 2 * count)? {
+        return Ok(false);
     }
     let mut cells = [0u16; CELLS];
-    close_front(&bytes, &mut cells, count, n, limit);
-    true
+    close_front(writer, &bytes, &mut cells, count, n, limit)?;
+    Ok(true)
 }
 
-fn main() {
-    let mut k = 0;
-    while k < MOST {
-        if !answered() {
-            return;
+fn main(rt: HostRuntime) -> io::Result<()> {
+    let mut input = rt.stdin();
+    let mut output = rt.stdout();
+    for _ in 0..MOST {
+        if !answered(&mut input, &mut output)? {
+            break;
         }
-        k += 1;
     }
+    Ok(())
 }

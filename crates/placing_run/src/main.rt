@@ -6,6 +6,8 @@
 ghost use Rattle.std.specs.Prelude.{◌+◌, ◌*◌, ◌≤◌, length};
 
 use placing::CheckAnswer;
+use std::io;
+use std::io::{Read, Write};
 
 // A case has at most so many cells and numbers.
 const CELLS: usize = 1100;
@@ -56,12 +58,18 @@ fn write_answer(out: &mut [u8], answer: CheckAnswer)
 }
 
 // Answers a case of n events with so many cells and numbers: whether its bytes came. Both rooms are filled whole.
-fn answered_case(n: usize, cells: usize, numbers: usize) -> bool
+fn answered_case<R: Read, W: Write>(
+    reader: &mut R,
+    writer: &mut W,
+    n: usize,
+    cells: usize,
+    numbers: usize,
+) -> io::Result<bool>
     requires { (cells ≤ 1100) × (numbers ≤ 80) }
 {
     let mut bytes = [0u8; 2 * CELLS + 4 * NUMBERS];
-    if !cases::receive(&mut bytes, 2 * cells + 4 * numbers) {
-        return false;
+    if !cases::receive(reader, &mut bytes, 2 * cells + 4 * numbers)? {
+        return Ok(false);
     }
     let mut g = [0u16; CELLS];
     cases::read16s(&bytes, &mut g);
@@ -70,34 +78,35 @@ fn answered_case(n: usize, cells: usize, numbers: usize) -> bool
     let answer = check_front(n, &g, cells, &xs, numbers);
     let mut out = [0u8; 5];
     write_answer(&mut out, answer);
-    cases::send(&out, 5);
-    true
+    cases::send(writer, &out, 5)?;
+    Ok(true)
 }
 
 // Answers one case: whether there was one.
-fn answered() -> bool {
+fn answered<R: Read, W: Write>(reader: &mut R, writer: &mut W) -> io::Result<bool> {
     let mut head = [0u8; 12];
-    if !cases::receive(&mut head, 12) {
-        return false;
+    if !cases::receive(reader, &mut head, 12)? {
+        return Ok(false);
     }
     let n = cases::read32(&head, 0) as usize;
     let cells = cases::read32(&head, 4) as usize;
     let numbers = cases::read32(&head, 8) as usize;
     if CELLS < cells {
-        return false;
+        return Ok(false);
     }
     if NUMBERS < numbers {
-        return false;
+        return Ok(false);
     }
-    answered_case(n, cells, numbers)
+    answered_case(reader, writer, n, cells, numbers)
 }
 
-fn main() {
-    let mut k = 0;
-    while k < MOST {
-        if !answered() {
-            return;
+fn main(rt: HostRuntime) -> io::Result<()> {
+    let mut input = rt.stdin();
+    let mut output = rt.stdout();
+    for _ in 0..MOST {
+        if !answered(&mut input, &mut output)? {
+            break;
         }
-        k += 1;
     }
+    Ok(())
 }

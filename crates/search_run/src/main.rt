@@ -7,6 +7,8 @@
 ghost use Rattle.std.specs.Prelude.{◌+◌, ◌*◌, ◌≤◌, length};
 
 use search::PlaceAnswer;
+use std::io;
+use std::io::{Read, Write};
 
 // A case has at most so many cells and numbers.
 const CELLS: usize = 1100;
@@ -48,64 +50,86 @@ fn write_answer(out: &mut [u8], answer: PlaceAnswer)
 }
 
 // Searches the given cells and writes the answer and the room.
-fn search_case(g: &[u16], n: usize, allowance: u32, room: &mut [i32]) {
+fn search_case<W: Write>(
+    writer: &mut W,
+    g: &[u16],
+    n: usize,
+    allowance: u32,
+    room: &mut [i32],
+) -> io::Result<()> {
     if NUMBERS < room.len() {
-        return;
+        return Ok(());
     }
     let answer = search::find_placing(g, n, allowance, room);
     let mut out = [0u8; 5 + 4 * NUMBERS];
     write_answer(&mut out, answer);
     write_numbers(&mut out, room);
-    cases::send(&out, 5 + 4 * room.len());
+    cases::send(writer, &out, 5 + 4 * room.len())
 }
 
 // The same, for the first cells and numbers of longer rooms.
-fn search_front(g: &[u16], cells: usize, n: usize, allowance: u32, room: &mut [i32], numbers: usize)
+fn search_front<W: Write>(
+    writer: &mut W,
+    g: &[u16],
+    cells: usize,
+    n: usize,
+    allowance: u32,
+    room: &mut [i32],
+    numbers: usize,
+) -> io::Result<()>
     requires { (cells ≤ length g.now) × (numbers ≤ length room.old) }
 {
-    search_case(&g[..cells], n, allowance, &mut room[..numbers]);
+    search_case(writer, &g[..cells], n, allowance, &mut room[..numbers])
 }
 
 // Answers a case with so many cells and numbers: whether its bytes came.
-fn answered_case(n: usize, allowance: u32, cells: usize, numbers: usize) -> bool
+fn answered_case<R: Read, W: Write>(
+    reader: &mut R,
+    writer: &mut W,
+    n: usize,
+    allowance: u32,
+    cells: usize,
+    numbers: usize,
+) -> io::Result<bool>
     requires { (cells ≤ 1100) × (numbers ≤ 80) }
 {
     let mut bytes = [0u8; 2 * CELLS];
-    if !cases::receive(&mut bytes, 2 * cells) {
-        return false;
+    if !cases::receive(reader, &mut bytes, 2 * cells)? {
+        return Ok(false);
     }
     let mut g = [0u16; CELLS];
     cases::read16s(&bytes, &mut g);
     let mut room = [-7i32; NUMBERS];
-    search_front(&g, cells, n, allowance, &mut room, numbers);
-    true
+    search_front(writer, &g, cells, n, allowance, &mut room, numbers)?;
+    Ok(true)
 }
 
 // Answers one case: whether there was one.
-fn answered() -> bool {
+fn answered<R: Read, W: Write>(reader: &mut R, writer: &mut W) -> io::Result<bool> {
     let mut head = [0u8; 16];
-    if !cases::receive(&mut head, 16) {
-        return false;
+    if !cases::receive(reader, &mut head, 16)? {
+        return Ok(false);
     }
     let n = cases::read32(&head, 0) as usize;
     let allowance = cases::read32(&head, 4);
     let cells = cases::read32(&head, 8) as usize;
     let numbers = cases::read32(&head, 12) as usize;
     if CELLS < cells {
-        return false;
+        return Ok(false);
     }
     if NUMBERS < numbers {
-        return false;
+        return Ok(false);
     }
-    answered_case(n, allowance, cells, numbers)
+    answered_case(reader, writer, n, allowance, cells, numbers)
 }
 
-fn main() {
-    let mut k = 0;
-    while k < MOST {
-        if !answered() {
-            return;
+fn main(rt: HostRuntime) -> io::Result<()> {
+    let mut input = rt.stdin();
+    let mut output = rt.stdout();
+    for _ in 0..MOST {
+        if !answered(&mut input, &mut output)? {
+            break;
         }
-        k += 1;
     }
+    Ok(())
 }

@@ -6,9 +6,11 @@
 // where the name starts, how long it is, and its bytes.
 #![tactic(auto)]
 
-ghost use Rattle.std.specs.Prelude.{◌*◌, ◌+◌, ◌≤◌, ◌<◌, length};
+ghost use Rattle.std.specs.Prelude.{◌*◌, ◌+◌, ◌≤◌, ◌<◌, IfOk, length};
 
 use sheet::SheetAnswer;
+use std::io;
+use std::io::{Read, Write};
 
 // At most so many cases are answered; a sheet has at most so many bytes, and a room so many cells.
 const MOST: usize = 100000;
@@ -70,18 +72,24 @@ fn repeat(bytes: &mut [u8], start: usize, piece: &[u8], times: usize) -> usize
 }
 
 // Reads a piece, and puts it so often at a place: where it ends.
-fn receive(bytes: &mut [u8], at: usize, count: usize, times: usize) -> usize
+fn receive<R: Read>(
+    reader: &mut R,
+    bytes: &mut [u8],
+    at: usize,
+    count: usize,
+    times: usize,
+) -> io::Result<usize>
     requires { at ≤ length bytes.old }
-    ensures { result ≤ length bytes.new }
+    ensures { IfOk result (λ n. n ≤ length bytes.new) }
 {
     let mut piece = [0u8; BYTES];
     if BYTES < count {
-        return at;
+        return Ok(at);
     }
-    if !cases::receive(&mut piece, count) {
-        return at;
+    if !cases::receive(reader, &mut piece, count)? {
+        return Ok(at);
     }
-    repeat(bytes, at, &piece[..count], times)
+    Ok(repeat(bytes, at, &piece[..count], times))
 }
 
 // The kind of an answer, its number, and the line.
@@ -127,7 +135,13 @@ fn name_start(bytes: &[u8], i: usize) -> usize {
     }
 }
 
-fn send_told(told: Told, sum: u32, start: usize, name: &[u8]) {
+fn send_told<W: Write>(
+    writer: &mut W,
+    told: Told,
+    sum: u32,
+    start: usize,
+    name: &[u8],
+) -> io::Result<()> {
     let mut out = [0u8; 64];
     cases::write_kind(&mut out, told.kind, told.value);
     cases::write32(&mut out, 5, told.line);
@@ -136,63 +150,76 @@ fn send_told(told: Told, sum: u32, start: usize, name: &[u8]) {
     cases::write32(&mut out, 17, small(name.len()));
     if name.len() <= 43 {
         copy(&mut out, 21, name);
-        cases::send(&out, 21 + name.len());
+        cases::send(writer, &out, 21 + name.len())?;
     }
+    Ok(())
 }
 
 // Reads the sheet into a room that was filled before, asks for the name, and writes what came.
-fn answer(bytes: &[u8], cells: &mut [u16], i: usize) {
+fn answer<W: Write>(writer: &mut W, bytes: &[u8], cells: &mut [u16], i: usize) -> io::Result<()> {
     fill(cells);
     let read = told_of(sheet::read_sheet(bytes, cells));
     send_told(
+        writer,
         read,
         checksum(cells),
         name_start(bytes, i),
         sheet::name_of(bytes, i),
-    );
+    )
 }
 
 // The same, for the first bytes and cells of longer rooms.
-fn answer_front(bytes: &[u8], count: usize, cells: &mut [u16], room: usize, i: usize) {
+fn answer_front<W: Write>(
+    writer: &mut W,
+    bytes: &[u8],
+    count: usize,
+    cells: &mut [u16],
+    room: usize,
+    i: usize,
+) -> io::Result<()> {
     if count <= bytes.len() {
         if room <= cells.len() {
-            answer(&bytes[..count], &mut cells[..room], i);
+            answer(writer, &bytes[..count], &mut cells[..room], i)?;
         }
     }
+    Ok(())
 }
 
 // Answers one case: whether there was one.
-fn answered() -> bool {
+fn answered<R: Read, W: Write>(reader: &mut R, writer: &mut W) -> io::Result<bool> {
     let mut head = [0u8; 24];
-    if !cases::receive(&mut head, 24) {
-        return false;
+    if !cases::receive(reader, &mut head, 24)? {
+        return Ok(false);
     }
     let mut bytes = [0u8; BYTES];
-    let a = receive(&mut bytes, 0, cases::read32(&head, 8) as usize, 1);
+    let a = receive(reader, &mut bytes, 0, cases::read32(&head, 8) as usize, 1)?;
     let b = receive(
+        reader,
         &mut bytes,
         a,
         cases::read32(&head, 12) as usize,
         cases::read32(&head, 16) as usize,
-    );
-    let e = receive(&mut bytes, b, cases::read32(&head, 20) as usize, 1);
+    )?;
+    let e = receive(reader, &mut bytes, b, cases::read32(&head, 20) as usize, 1)?;
     let mut cells = [0u16; CELLS];
     answer_front(
+        writer,
         &bytes,
         e,
         &mut cells,
         cases::read32(&head, 0) as usize,
         cases::read32(&head, 4) as usize,
-    );
-    true
+    )?;
+    Ok(true)
 }
 
-fn main() {
-    let mut k = 0;
-    while k < MOST {
-        if !answered() {
-            return;
+fn main(rt: HostRuntime) -> io::Result<()> {
+    let mut input = rt.stdin();
+    let mut output = rt.stdout();
+    for _ in 0..MOST {
+        if !answered(&mut input, &mut output)? {
+            break;
         }
-        k += 1;
     }
+    Ok(())
 }

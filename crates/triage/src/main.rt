@@ -3,19 +3,24 @@
 #![tactic(auto)]
 
 use desk::ROOM;
-use libc::{STDERR_FILENO, STDOUT_FILENO};
 use report::PRINTED;
+use std::io;
+use std::io::Write;
 
-fn main() {
+fn main(rt: HostRuntime) -> io::Result<()> {
     let mut sheet = [0u8; ROOM];
-    let n = desk::read_sheet(&mut sheet);
-    if ROOM < n {
-        io::write_all(STDERR_FILENO, b"triage: the sheet could not be read\n");
-        return;
-    }
+    let n = match desk::read_sheet(&mut rt.stdin(), &mut sheet) {
+        Ok(n) => n,
+        Err(e) => {
+            let _ = eprintln!(rt; "triage: the sheet could not be read");
+            return Err(e);
+        }
+    };
     let mut room = [0u8; PRINTED];
     let len = report::triage_report(&sheet[..n], report::ALLOWANCE, &mut room);
-    if !io::write_all(STDOUT_FILENO, &room[..len]) {
-        io::write_all(STDERR_FILENO, b"triage: the answer could not be written\n");
+    let written = rt.stdout().write_all(&room[..len]);
+    if written.is_err() {
+        let _ = eprintln!(rt; "triage: the answer could not be written");
     }
+    written
 }
