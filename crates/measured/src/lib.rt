@@ -1,4 +1,4 @@
-// The public functions under C's calling convention, for the benchmark: each answer as one number.
+// The public functions for the benchmark: each answer as one number. `measured_c` exports them under C's calling convention.
 #![tactic(auto)]
 
 ghost use Rattle.std.specs.Prelude.{◌≡◌};
@@ -80,40 +80,35 @@ fn sheet_number(answer: SheetAnswer) -> u64
     }
 }
 
-#[unsafe(no_mangle)]
-pub extern "C" fn proved_compose(a: u16, b: u16) -> u64
+pub fn proved_compose(a: u16, b: u16) -> u64
     ensures { Numbered (λ x. said_of x ≡ compose_said a b) set_number result }
 {
     let answer = relation::compose(a, b);
     set_number(answer)
 }
 
-#[unsafe(no_mangle)]
-pub extern "C" fn proved_quick_close(g: &mut [u16], n: usize, limit: usize) -> u64
+pub fn proved_quick_close(g: &mut [u16], n: usize, limit: usize) -> u64
     ensures { Numbered (λ x. QuickCloses n limit g.old x g.new) quick_number result }
 {
     let answer = quick::quick_close(g, n, limit);
     quick_number(answer)
 }
 
-#[unsafe(no_mangle)]
-pub extern "C" fn proved_plain_close(g: &mut [u16], n: usize) -> u64
+pub fn proved_plain_close(g: &mut [u16], n: usize) -> u64
     ensures { Numbered (λ x. PlainCloses n g.old x g.new) plain_number result }
 {
     let answer = plain::plain_close(g, n);
     plain_number(answer)
 }
 
-#[unsafe(no_mangle)]
-pub extern "C" fn proved_find_placing(g: &[u16], n: usize, allowance: u32, room: &mut [i32]) -> u64
+pub fn proved_find_placing(g: &[u16], n: usize, allowance: u32, room: &mut [i32]) -> u64
     ensures { Numbered (λ x. Looks n allowance g.now room.old x room.new) place_number result }
 {
     let answer = search::find_placing(g, n, allowance, room);
     place_number(answer)
 }
 
-#[unsafe(no_mangle)]
-pub extern "C" fn proved_read_sheet(s: &[u8], room: &mut [u16]) -> u64
+pub fn proved_read_sheet(s: &[u8], room: &mut [u16]) -> u64
     ensures { Numbered (λ x. Reads s.now room.old x room.new) sheet_number result }
 {
     let answer = sheet::read_sheet(s, room);
@@ -121,8 +116,7 @@ pub extern "C" fn proved_read_sheet(s: &[u8], room: &mut [u16]) -> u64
 }
 
 // What `place` prints, with the allowance of the program.
-#[unsafe(no_mangle)]
-pub extern "C" fn proved_place(s: &[u8], room: &mut [u8]) -> usize
+pub fn proved_place(s: &[u8], room: &mut [u8]) -> usize
     ensures { Prints (place_text 5000 s.now) room.old result room.new }
 {
     report::place_report(s, report::ALLOWANCE, room)

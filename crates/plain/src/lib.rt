@@ -14,7 +14,7 @@ use grid::Judged;
 use refusal::Refusal;
 use relation::Rows;
 
-#[derive(Drop)]
+#[derive(Clone, Copy)]
 pub enum PlainAnswer {
     Closed,
     Contradiction,
@@ -22,7 +22,7 @@ pub enum PlainAnswer {
 }
 
 // A route left nothing, or whether a part of a sweep changed something.
-#[derive(Drop)]
+#[derive(Clone, Copy)]
 pub enum Swept {
     Dead,
     Moved(bool),
@@ -129,7 +129,7 @@ fn sweep_over(g: &mut [u16], n: usize, m: usize, b: usize) -> Swept
 }
 
 // A route that changes its cell, by the event that it comes from, and what it leaves.
-#[derive(Drop)]
+#[derive(Clone, Copy)]
 pub struct Found {
     pub from: usize,
     pub set: u16,

@@ -23,7 +23,7 @@ use takes::{End, Line};
 const ENOUGH: usize = 6448;
 
 // Closed or contradiction with the takes made, paused with the limit, or a refusal.
-#[derive(Drop)]
+#[derive(Clone, Copy)]
 pub enum QuickAnswer {
     Closed(usize),
     Contradiction(usize),
