@@ -1,19 +1,18 @@
 // A reader over a sheet: it holds the lent bytes and its place in them, and hands on line after line.
-// The borrow checker covers no function over such a struct, so each of the methods is thin and is
-// walked by hand; the work is done by line_at, and line_from has plain parameters again.
+// Each of the methods is thin: the work is done by line_at, and line_from has plain parameters again.
 #![tactic(auto)]
 
 ghost use Rattle.std.specs.Prelude.{◌≡◌};
 ghost use Rattle.reader.specs.Lines.{line_at, line_count};
 
-#[derive(Drop)]
+#[derive(Clone, Copy)]
 pub struct Reader<'a> {
     pub sheet: &'a [u8],
     pub at: usize,
 }
 
 // What begins at a place: a line, whose LF stands there; bytes without an LF; or nothing.
-#[derive(Drop)]
+#[derive(Clone, Copy)]
 pub enum NextLine {
     Ends(usize),
     Unended,
