@@ -1,3 +1,4 @@
 pub mod RuleLaws
 pub mod ShowLaws
+pub mod KindLaws
 pub mod PairLaws

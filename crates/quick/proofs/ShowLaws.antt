@@ -7,18 +7,17 @@ use native.Mathlib.Decide.{ℕ_discrete}
 use native.Mathlib.Omega.{arith}
 use borrow.Author.Tests.{eq-eqb, ne_eqb}
 use lib.Dec.{eqb}
-use lib.ListN.{length, replicate}
+use lib.ListN.{replicate}
 use Rattle.refusal.specs.Answered.{Answered, refused, answers}
 use Rattle.refusal.specs.Numbers.{number_of}
 use Rattle.refusal.specs.declared.Refusal.{Refusal}
 use Rattle.refusal.proofs.NumberLaws.{number_pos, number_unique}
-use Rattle.grid.specs.Cells.{cell, some_empty}
+use Rattle.grid.specs.Cells.{some_empty}
 use Rattle.grid.specs.Accepted.{Accepted, grid_refusal}
 use Rattle.grid.proofs.AcceptedLaws.{accepted-grid}
-use Rattle.theory.proofs.EndLaws.{Kind, contradicts, pauses, Largest, EndsAs, refusing, full, emptied, ends_unique}
+use Rattle.theory.proofs.EndLaws.{pauses}
 use Rattle.theory.proofs.QuickLaws.{takes_of}
 use Rattle.theory.specs.Allen.{allen}
-use Rattle.theory.specs.Closing.{Closing}
 use Rattle.theory.specs.Line.{all_pairs}
 use Rattle.theory.specs.Quick.{Ended, contradiction, closed, paused, run}
 use Rattle.takes.specs.Steps.{ended}
@@ -27,7 +26,7 @@ use Rattle.quick.specs.Answers.{Said, said_closed, said_contradiction, said_paus
 use Rattle.quick.specs.Steps.{Shows}
 use Rattle.quick.specs.declared.QuickAnswer.{QuickAnswer}
 use Rattle.quick.specs.declared.QuickAnswer.TheVariants.{Closed, Contradiction, Paused, Refused}
-use Rattle.quick.proofs.RuleLaws.{TakesFew, rule_run, rule_closed, rule_contradiction, rule_few, rule_paused, rule_long}
+use Rattle.quick.proofs.RuleLaws.{TakesFew, rule_run, rule_closed, rule_contradiction, rule_few, rule_paused}
 
 -- the run from the list of all pairs is the rule's
 pub rule_ran : (n limit : ℕ) (g : List ℕ) (b : Bool) → b ≡ some_empty g → b ≡ false → (q : List ℕ) → q ≡ all_pairs n → (r r' : End) (g' : List ℕ)
@@ -113,11 +112,11 @@ quick_unique n limit g r s h k p q = (said_unique r s (p.answer ∙ sym q.answer
 -- ---- what the statement says of the rule
 
 -- an answer is the rule's on a grid without a refusal, or a refusal
-data Ran (n limit : ℕ) (g : List ℕ) (r : QuickAnswer) (g' : List ℕ) : Type 0 where
+pub data Ran (n limit : ℕ) (g : List ℕ) (r : QuickAnswer) (g' : List ℕ) : Type 0 where
   by_rule : grid_refusal n g ≡ 0 → said_of r ≡ answers (said_by (quick_rule n limit g)) → g' ≡ cells_by n (quick_rule n limit g) → Ran n limit g r g'
   by_refusal : 0 < grid_refusal n g → said_of r ≡ refused (grid_refusal n g) → g' ≡ g → Ran n limit g r g'
 
-ran : (n limit : ℕ) (g : List ℕ) (r : QuickAnswer) (g' : List ℕ) → QuickCloses n limit g r g' → Ran n limit g r g'
+pub ran : (n limit : ℕ) (g : List ℕ) (r : QuickAnswer) (g' : List ℕ) → QuickCloses n limit g r g' → Ran n limit g r g'
 ran n limit g r g' q = go (ℕ_discrete (grid_refusal n g) 0)
   where
     go : Dec (grid_refusal n g ≡ 0) → Ran n limit g r g'
@@ -174,47 +173,3 @@ module _ (n limit : ℕ) (g : List ℕ) (t : ℕ) (g' : List ℕ) where
 
 pub quick_never_pauses : (n limit : ℕ) (g : List ℕ) (t : ℕ) (h : List ℕ) → 6448 ≤ limit → QuickCloses n limit g (Paused t) h → ⊥
 quick_never_pauses n limit g t h l q = omega (arith, l, (paused_limit n limit g t h q).1)
-
--- ---- unless paused, the kind of the answer and the cells are those of the given grid's closing, whatever the limit
-
--- an answer without its takes
-abbrev pub quick_kind : QuickAnswer → Kind
-quick_kind (Closed t) = Kind.closes
-quick_kind (Contradiction t) = contradicts
-quick_kind (Paused t) = pauses
-quick_kind (Refused x) = Kind.refuses (number_of x)
-
-module _ (n limit : ℕ) (g h : List ℕ) where
-  -- the cells are as many as before, and no refusal is due
-  largest : (r : QuickAnswer) → ((k : ℕ) → said_of r ≡ refused k → ⊥) → QuickCloses n limit g r h → Closing allen n (cell n g) (cell n h) → Largest n g h
-  largest r nr q c = go (ran n limit g r h q)
-    where
-      go : Ran n limit g r h → Largest n g h
-      go (by_rule z s w) = record { none = z; long = ap length w ∙ rule_long n g (accepted-grid n g z) limit; closing = c }
-      go (by_refusal p s w) = absurd (nr (grid_refusal n g) s)
-
-  -- a refusal is the one that is due
-  refusing_as : (x : Refusal) → Ran n limit g (Refused x) h → EndsAs n g (Kind.refuses (number_of x)) h
-  refusing_as x (by_rule z s w) = absurd (no_refusal (quick_rule n limit g) s)
-    where
-      no_refusal : (e : Ended) → refused (number_of x) ≡ answers (said_by e) → ⊥
-      no_refusal (contradiction t) s = let y : ◌≡◌ {A = ℕ} 0 1 = cc in omega arith
-      no_refusal (closed t k) s = let y : ◌≡◌ {A = ℕ} 0 1 = cc in omega arith
-      no_refusal (paused t k) s = let y : ◌≡◌ {A = ℕ} 0 1 = cc in omega arith
-  refusing_as x (by_refusal p s w) =
-      let same : grid_refusal n g ≡ number_of x = cc in
-      subst (λ (k : ℕ). EndsAs n g (Kind.refuses k) h) same (subst (EndsAs n g (Kind.refuses (grid_refusal n g))) (sym w) (refusing p))
-
-  pub quick_ends : (r : QuickAnswer) → QuickCloses n limit g r h → ((t : ℕ) → r ≡ Paused t → ⊥) → EndsAs n g (quick_kind r) h
-  quick_ends (Closed t) q np =
-      let c = q.closed t refl in
-      full (largest (Closed t) (λ k s. let z : ◌≡◌ {A = ℕ} 0 1 = cc in omega arith) q c.largest) c.full
-  quick_ends (Contradiction t) q np =
-      let c = q.contradiction t refl in
-      emptied (largest (Contradiction t) (λ k s. let z : ◌≡◌ {A = ℕ} 0 1 = cc in omega arith) q c.largest) c.empty
-  quick_ends (Paused t) q np = absurd (np t refl)
-  quick_ends (Refused x) q np = refusing_as x (ran n limit g (Refused x) h q)
-
-pub limits_agree : (n limit limit' : ℕ) (g : List ℕ) (r s : QuickAnswer) (h k : List ℕ) → QuickCloses n limit g r h → QuickCloses n limit' g s k
-    → ((t : ℕ) → r ≡ Paused t → ⊥) → ((t : ℕ) → s ≡ Paused t → ⊥) → (quick_kind r ≡ quick_kind s) × (h ≡ k)
-limits_agree n limit limit' g r s h k p q np nq = ends_unique n g (quick_ends n limit g h r p np) (quick_ends n limit' g k s q nq)

@@ -6,7 +6,8 @@ use Rattle.theory.proofs.EndLaws.{ends_unique}
 use Rattle.quick.specs.Answers.{QuickCloses}
 use Rattle.quick.specs.declared.QuickAnswer.{QuickAnswer}
 use Rattle.quick.specs.declared.QuickAnswer.TheVariants.{Paused}
-use Rattle.quick.proofs.ShowLaws.{quick_kind, quick_ends, quick_never_pauses}
+use Rattle.quick.proofs.ShowLaws.{quick_never_pauses}
+use Rattle.quick.proofs.KindLaws.{quick_kind, quick_ends}
 use Rattle.plain.specs.Answers.{PlainCloses}
 use Rattle.plain.specs.declared.PlainAnswer.{PlainAnswer}
 use Rattle.plain.proofs.PlainRight.{plain_kind, plain_ends}
