@@ -22,8 +22,8 @@ put_digits-end-requires t c =
 
 pub put_byte-requires-2 : goal.put_byte-requires-2
 put_byte-requires-2 t c =
-    let h : 10 ≤ c.args.k = omega (arith, c.if-k-lt10.false) in
-    omega (arith, c.requires, c.put_digits-end.ensures.next, ap length (decimal-more c.args.k h), length-append (decimal (c.args.k / 10)) ((48 + c.args.k % 10) ∷ []))
+    let more : 10 ≤ c.args.k = omega (arith, c.if-k-lt10.false) in
+    omega (arith, c.requires, c.put_digits-end.ensures.next, ap length (decimal-more c.args.k more), length-append (decimal (c.args.k / 10)) ((48 + c.args.k % 10) ∷ []))
 
 pub returns : goal.returns
 returns t c = rw (decimal-more c.args.k (omega (arith, c.if-k-lt10.false))) (adds_then c.put_digits-end.ensures c.put_byte-2.ensures)
