@@ -10,7 +10,7 @@ use Rattle.report.proofs.put_byte.Goals.{then-at-out, else-at-out}
 stored : (c : goal.Joined-at-out) → c.if-at-out.out ≡ set c.args.out.now c.args.at c.args.b
 stored c =
     elim c.if-at-out.branch [
-      then-at-out w ↦ w.out-is
+      | then-at-out w ↦ w.out-is
       | else-at-out w ↦ w.out-is ∙ sym (set_out c.args.out.now c.args.at c.args.b (omega (arith, w.if-at-out.false)))
     ]
 

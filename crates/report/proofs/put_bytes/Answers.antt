@@ -1,6 +1,5 @@
 -- Each turn puts one byte more of the text.
 use mathlib.Core.Path.{refl, ◌∙◌}
-use Prim.Native.Nat.{◌-◌}
 use lib.Seq.{take_all}
 use Rattle.report.proofs.AddsLaws.{adds_none, adds-more}
 use native.Mathlib.Omega.{arith}
@@ -22,13 +21,12 @@ pub loop-k-smaller : goal.loop-k-smaller
 loop-k-smaller c = omega arith
 
 pub loop-k-preserved : goal.loop-k-preserved
-loop-k-preserved c =
-    (
-      omega arith,
-      omega (arith, c.put_byte-end.ensures.next),
-      c.put_byte-end.auto.out ∙ c.loop-k.invariant.2,
-      adds-more c.args.text.now c.loop-k.k c.loop-k-test.true c.loop-k.invariant.3 c.put_byte-end.ensures,
-    )
+loop-k-preserved c = (
+  omega arith,
+  omega (arith, c.put_byte-end.ensures.next),
+  c.put_byte-end.auto.out ∙ c.loop-k.invariant.2,
+  adds-more c.args.text.now c.loop-k.k c.loop-k-test.true c.loop-k.invariant.3 c.put_byte-end.ensures,
+)
 
 pub shape_of-out : goal.shape_of-out
 shape_of-out c = c.loop-k.invariant.2

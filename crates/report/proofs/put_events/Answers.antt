@@ -1,6 +1,6 @@
 -- Each turn puts the line of one event more.
 use mathlib.Core.Path.{◌≡◌, refl, ◌∙◌, ap}
-use Prim.Native.Nat.{◌+◌, ◌*◌, ◌-◌}
+use Prim.Native.Nat.{◌+◌, ◌*◌}
 use lib.ListN.{length}
 use Rattle.sheet.specs.Steps.{names_at}
 use Rattle.sheet.proofs.ContentsLaws.{names-length}
@@ -21,17 +21,16 @@ put_event-end-requires c =
     (omega (arith, ap length c.name_at-name.ensures.bytes, c.requires.0.short c.loop-i.i (rw names c.loop-i-test.true)), omega arith)
 
 pub loop-i-preserved : goal.loop-i-preserved
-loop-i-preserved c =
-    (
-      omega arith,
-      omega (arith, c.put_event-end.ensures.within),
-      c.put_event-end.auto.out ∙ c.loop-i.invariant.2,
-      adds-line (names_at c.args.s.now c.args.places.now c.args.n) c.args.numbers.now c.loop-i.i _ _ _
-          c.name_at-name.ensures.bytes
-          (natural-is (at c.args.numbers.now (2 * c.loop-i.i)) c.natural-arg-1.given _ c.natural-first.ensures)
-          (natural-is (at c.args.numbers.now (2 * c.loop-i.i + 1)) c.natural-arg-in-loop-i-1.given _ c.natural-last.ensures)
-          c.loop-i.invariant.3 c.put_event-end.ensures.adds,
-    )
+loop-i-preserved c = (
+  omega arith,
+  omega (arith, c.put_event-end.ensures.within),
+  c.put_event-end.auto.out ∙ c.loop-i.invariant.2,
+  adds-line (names_at c.args.s.now c.args.places.now c.args.n) c.args.numbers.now c.loop-i.i _ _ _
+      c.name_at-name.ensures.bytes
+      (natural-is (at c.args.numbers.now (2 * c.loop-i.i)) c.natural-arg-1.given _ c.natural-first.ensures)
+      (natural-is (at c.args.numbers.now (2 * c.loop-i.i + 1)) c.natural-arg-in-loop-i-1.given _ c.natural-last.ensures)
+      c.loop-i.invariant.3 c.put_event-end.ensures.adds,
+)
 
 pub returns : goal.returns
 returns c =

@@ -2,7 +2,6 @@ use mathlib.Core.Path.{◌≡◌}
 use Prim.Native.Nat.{◌+◌, ◌*◌, ◌-◌, ◌≤◌}
 use lib.ListN.{length}
 use Rattle.sheet.specs.Steps.{names_at}
-use Rattle.placing.specs.Placing.{at}
 use Rattle.report.specs.Report.{event_lines}
 use Rattle.report.specs.Steps.{Adds, most_end, most_event}
 use Rattle.report.proofs.put_events.Given as goal

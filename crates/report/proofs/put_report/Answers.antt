@@ -5,7 +5,7 @@ use native.Mathlib.Nat.{mul-le-mul}
 use mathlib.Core.List.{List}
 use Prim.Native.Nat.{ℕ}
 use Rattle.sheet.specs.Sheet.{Outcome, sheet}
-use Rattle.sheet.specs.Steps.{SheetRead, SheetSays}
+use Rattle.sheet.specs.Steps.{SheetSays}
 use Rattle.sheet.specs.declared.Table.{Table}
 use Rattle.sheet.specs.declared.SheetAnswer.{SheetAnswer}
 use Rattle.sheet.specs.declared.SheetAnswer.TheVariants.{Events, Refused}
