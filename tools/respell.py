@@ -4,8 +4,8 @@
 usage: python3 tools/respell.py [FOLDER]     once, at the top, right after the kit's port.py; FOLDER is the repository's top
 
 - A word is in snake case: putBoth becomes put_both. A fact is spelled as a type: holds becomes Holds.
-- A dash joins two names, and a plain word is added with an underscore: cell-put-other becomes cell-put_other,
-  since cell and put are definitions and other is a plain word.
+- A dash joins two names, and a plain word is added with an underscore: putBoth-length becomes put_both-length, since length
+  is a name too, and converse-twice becomes converse_twice.
 
 Only names that specs/ or proofs/ of this repository declare are turned, in crates/, README.md and docs/. Functions of src/,
 exported names, strings, inputs and outputs keep theirs. It stops where a new name would fall together with another.

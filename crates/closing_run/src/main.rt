@@ -17,7 +17,7 @@ const MOST: usize = 100000;
 const CELLS: usize = 1100;
 
 // The kind of an answer, and its number.
-#[derive(Drop)]
+#[derive(Clone, Copy)]
 struct Told {
     kind: u8,
     value: u32,

@@ -14,7 +14,7 @@ use grid::{EVENTS, Judged};
 use refusal::Refusal;
 
 // What the checker says of a placing.
-#[derive(Drop)]
+#[derive(Clone, Copy)]
 pub enum CheckAnswer {
     Meets,
     Misses,
@@ -22,7 +22,7 @@ pub enum CheckAnswer {
 }
 
 // How one number stands to another.
-#[derive(Drop)]
+#[derive(Clone, Copy)]
 enum Compared {
     Less,
     Same,

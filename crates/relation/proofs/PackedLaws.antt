@@ -208,15 +208,15 @@ unfolding member
 picked_by n d p q v w e = rw (← e, digit_0 n, digit_1 n, digit_2 n, digit_3 n) refl
 
 -- one by one past the numbers that it is not
-past : (k x : ℕ) → k ≤ x → (x ≡ k → ⊥) → suc k ≤ x
+pub past : (k x : ℕ) → k ≤ x → (x ≡ k → ⊥) → suc k ≤ x
 past k x h ne = omega (arith, ne)
 
-last : (x : ℕ) → 15 ≤ x % 16 → x % 16 ≡ 15
-last x h = omega arith
+pub the_last : (x : ℕ) → 15 ≤ x % 16 → x % 16 ≡ 15
+the_last x h = omega arith
 
 -- what is none of the fifteen before it is the last of the sixteen
-pub the_last : (x : ℕ) → (x % 16 ≡ 0 → ⊥) → (x % 16 ≡ 1 → ⊥) → (x % 16 ≡ 2 → ⊥) → (x % 16 ≡ 3 → ⊥) → (x % 16 ≡ 4 → ⊥) → (x % 16 ≡ 5 → ⊥) → (x % 16 ≡ 6 → ⊥) → (x % 16 ≡ 7 → ⊥) → (x % 16 ≡ 8 → ⊥) → (x % 16 ≡ 9 → ⊥) → (x % 16 ≡ 10 → ⊥) → (x % 16 ≡ 11 → ⊥) → (x % 16 ≡ 12 → ⊥) → (x % 16 ≡ 13 → ⊥) → (x % 16 ≡ 14 → ⊥) → x % 16 ≡ 15
-the_last x n0 n1 n2 n3 n4 n5 n6 n7 n8 n9 n10 n11 n12 n13 n14 = last x (past 14 _ (past 13 _ (past 12 _ (past 11 _ (past 10 _ (past 9 _ (past 8 _ (past 7 _ (past 6 _ (past 5 _ (past 4 _ (past 3 _ (past 2 _ (past 1 _ (past 0 _ (omega arith) n0) n1) n2) n3) n4) n5) n6) n7) n8) n9) n10) n11) n12) n13) n14)
+pub none_left : (x : ℕ) → (x % 16 ≡ 0 → ⊥) → (x % 16 ≡ 1 → ⊥) → (x % 16 ≡ 2 → ⊥) → (x % 16 ≡ 3 → ⊥) → (x % 16 ≡ 4 → ⊥) → (x % 16 ≡ 5 → ⊥) → (x % 16 ≡ 6 → ⊥) → (x % 16 ≡ 7 → ⊥) → (x % 16 ≡ 8 → ⊥) → (x % 16 ≡ 9 → ⊥) → (x % 16 ≡ 10 → ⊥) → (x % 16 ≡ 11 → ⊥) → (x % 16 ≡ 12 → ⊥) → (x % 16 ≡ 13 → ⊥) → (x % 16 ≡ 14 → ⊥) → x % 16 ≡ 15
+none_left x n0 n1 n2 n3 n4 n5 n6 n7 n8 n9 n10 n11 n12 n13 n14 = the_last x (past 14 _ (past 13 _ (past 12 _ (past 11 _ (past 10 _ (past 9 _ (past 8 _ (past 7 _ (past 6 _ (past 5 _ (past 4 _ (past 3 _ (past 2 _ (past 1 _ (past 0 _ (omega arith) n0) n1) n2) n3) n4) n5) n6) n7) n8) n9) n10) n11) n12) n13) n14)
 
 -- all relations, in each set that n marks
 abbrev spread : ℕ → ℕ

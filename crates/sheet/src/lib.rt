@@ -95,7 +95,7 @@ fn entry_line(s: &[u8], places: &[usize], i: usize, a: usize) -> EntryLine
 }
 
 // The table of contents: of each event where its name begins in the sheet and how long it is, one after the other; and its number of statements.
-#[derive(Drop)]
+#[derive(Clone, Copy)]
 pub struct Table {
     pub places: [usize; 2 * EVENTS],
     pub count: [usize; EVENTS],
@@ -109,7 +109,7 @@ enum Place {
 }
 
 // How far the contents were read.
-#[derive(Drop)]
+#[derive(Clone, Copy)]
 struct Contents {
     table: Table,
     place: Place,
@@ -280,7 +280,7 @@ fn bodies_of(
 }
 
 // The answer to a sheet, and its table of contents.
-#[derive(Drop)]
+#[derive(Clone, Copy)]
 pub struct Reading {
     pub table: Table,
     pub answer: SheetAnswer,

@@ -93,7 +93,7 @@ fn receive<R: Read>(
 }
 
 // The kind of an answer, its number, and the line.
-#[derive(Drop)]
+#[derive(Clone, Copy)]
 struct Told {
     kind: u8,
     value: u32,

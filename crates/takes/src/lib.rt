@@ -15,21 +15,21 @@ ghost use Rattle.takes.specs.Steps.{Waits, waiting_in, Steps, FairIf, Sees, Chan
 use relation::Rows;
 
 // The waiting list: it starts at head in the ring and is len pairs long.
-#[derive(Drop)]
+#[derive(Clone, Copy)]
 pub struct Line {
     pub head: usize,
     pub len: usize,
 }
 
 // A cell became empty, or the waiting list as it is now.
-#[derive(Drop)]
+#[derive(Clone, Copy)]
 pub enum Cut {
     Dead,
     Going(Line),
 }
 
 // How a run of takes ended, with the takes made.
-#[derive(Drop)]
+#[derive(Clone, Copy)]
 pub enum End {
     Contradiction(usize),
     Closed(usize),
@@ -82,7 +82,7 @@ pub fn write_cut(
 }
 
 // A cut that changes its cell, by its number in the take, and what it leaves. Cut 2 * k is the first at k, 2 * k + 1 the second.
-#[derive(Drop)]
+#[derive(Clone, Copy)]
 pub struct Found {
     pub at: usize,
     pub set: u16,
@@ -213,7 +213,7 @@ fn take_pair(
 }
 
 // The first pair, and the waiting list without it.
-#[derive(Drop)]
+#[derive(Clone, Copy)]
 pub struct First {
     pub pair: usize,
     pub rest: Line,

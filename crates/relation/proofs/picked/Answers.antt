@@ -3,7 +3,7 @@ use mathlib.Core.Path.{ap, sym, ◌∙◌}
 use Prim.Native.Nat.{ℕ}
 use lib.Bits.{bit_or, or_zero_l, or_zero_r}
 use Rattle.relation.specs.Sets.{member}
-use Rattle.relation.proofs.PackedLaws.{picked_by, the_last}
+use Rattle.relation.proofs.PackedLaws.{picked_by, none_left}
 use borrow.Author.Rules.{rules}
 use Rattle.relation.proofs.picked.Goals as goal
 
@@ -69,4 +69,4 @@ returns-in-14 c = ap (λ (y : ℕ). bit_or y c.args.w) (ap (λ (y : ℕ). bit_or
 
 pub returns-in_default : goal.returns-in_default
 unfolding member
-returns-in_default c = picked_by c.args.n 15 c.args.p c.args.q c.args.v c.args.w (search (rules, the_last))
+returns-in_default c = picked_by c.args.n 15 c.args.p c.args.q c.args.v c.args.w (search (rules, none_left))
