@@ -95,15 +95,8 @@ pub fn receive<R: Read>(reader: &mut R, room: &mut [u8], n: usize) -> io::Result
     if room.len() < n {
         return Ok(false);
     }
-    let mut done = 0;
-    while done < n {
-        let more = reader.read(&mut room[done..n])?;
-        if more == 0 {
-            return Ok(false);
-        }
-        done += more;
-    }
-    Ok(true)
+    let got = desk::read_sheet(reader, &mut room[..n])?;
+    Ok(got == n)
 }
 
 // Writes the first n bytes of the room, or nothing where it is shorter. A write that fails ends it with its error.

@@ -1,4 +1,4 @@
-// What the programs share: reading a sheet from standard input.
+// What the programs share: reading from standard input until a room is full or the input ends.
 #![tactic(auto)]
 
 ghost use Rattle.std.specs.Prelude.{◌<◌, IfOk, length, take};
