@@ -22,11 +22,6 @@ use Rattle.relation.proofs.ExchangeLaws.{exchanged_lt, exchanged_twice, member-c
 
 -- ---- the table
 
--- a lent table
-pub entry_read : (t : List (List ℕ)) (r s : ℕ) → t ≡ table → get_or (get_or t r []) s 0 ≡ entry r s
-unfolding entry
-entry_read t r s e = ap (λ (l : List (List ℕ)). get_or (get_or l r []) s 0) e
-
 entry_test : T (all 13 (λ r. all 13 (λ s. ltb (entry r s) 8192)))
 unfolding entry
 entry_test = tt

@@ -8,7 +8,7 @@ use lib.Dec.{eqb, eqb→eq, lit<}
 use lib.Bits.{bit_and, bit_or, or_lt, or_zero_l, or_comm, and_zero_r, and_le_r, and_mask, or_shr, or_mod, and_shr, and_mod}
 use Rattle.relation.specs.Sets.{member, union_over}
 use Rattle.relation.specs.Composition.{entry, compose_row, compose}
-use Rattle.relation.specs.Packed.{part, picked_of, FourAt, RowsFrom, Marked}
+use Rattle.relation.specs.Packed.{part, picked_of, FourAt, PickedAt, RowsFrom, Marked}
 use Rattle.relation.proofs.Tested.{T_of, or_assoc, all, all-at}
 use Rattle.relation.proofs.SetLaws.{member_or, member-high, same}
 use Rattle.relation.proofs.UnionLaws.{below_first, below_next, union_lt, union-small, union-mark}
@@ -122,23 +122,22 @@ module _ (f : ℕ → ℕ) (small : (r : ℕ) → r < 13 → f r < 8192) (a : �
 
 -- ---- rows, and what a set picks of them
 
-module _ (r b : ℕ) (c₀ c₁ c₂ c₃ c₄ c₅ c₆ c₇ c₈ c₉ d₀ d₁ d₂ : ℕ) (k₀ : FourAt r 0 c₀) (k₁ : FourAt r 1 c₁) (k₂ : FourAt r 2 c₂) (k₃ : FourAt r 3 c₃) (k₄ : FourAt r 4 c₄) (k₅ : FourAt r 5 c₅)
-    (k₆ : FourAt r 6 c₆) (k₇ : FourAt r 7 c₇) (k₈ : FourAt r 8 c₈) (k₉ : FourAt r 9 c₉) (j₀ : FourAt r 10 d₀) (j₁ : FourAt r 11 d₁) (j₂ : FourAt r 12 d₂) where
-  abbrev apart : ℕ
-  apart = bit_or (bit_or (picked_of b c₀ c₁ c₂ c₃) (picked_of (b / 16) c₄ c₅ c₆ c₇)) (picked_of (b / 256) c₈ c₉ d₀ d₁)
+-- four of the relations picked, of which each number has its entries
+pub picked_four : (r s n p q v w : ℕ) → FourAt r s p → FourAt r (s + 1) q → FourAt r (s + 2) v → FourAt r (s + 3) w → PickedAt r s n (picked_of n p q v w)
+picked_four r s n p q v w k₀ k₁ k₂ k₃ l h = part-picked l n p q v w ∙ rw (k₀ l h, k₁ l h, k₂ l h, k₃ l h) refl
 
+module _ (r b x y z d : ℕ) (low : PickedAt r 0 b x) (middle : PickedAt r 4 (b / 16) y) (high : PickedAt r 8 (b / 256) z) (last : FourAt r 12 d) where
   -- but for its eq
-  rows_apart : (l : ℕ) → l < 4 → part l apart ≡ union_over (entry (r + l)) (b % 4096)
+  rows_apart : (l : ℕ) → l < 4 → part l (bit_or (bit_or x y) z) ≡ union_over (entry (r + l)) (b % 4096)
   rows_apart l h =
-      part_or l (bit_or (picked_of b c₀ c₁ c₂ c₃) (picked_of (b / 16) c₄ c₅ c₆ c₇)) (picked_of (b / 256) c₈ c₉ d₀ d₁)
-      ∙ ap₂ bit_or (part_or l (picked_of b c₀ c₁ c₂ c₃) (picked_of (b / 16) c₄ c₅ c₆ c₇) ∙ ap₂ bit_or (part-picked l b c₀ c₁ c₂ c₃) (part-picked l (b / 16) c₄ c₅ c₆ c₇)) (part-picked l (b / 256) c₈ c₉ d₀ d₁)
-      ∙ rw (k₀ l h, k₁ l h, k₂ l h, k₃ l h, k₄ l h, k₅ l h, k₆ l h, k₇ l h, k₈ l h, k₉ l h, j₀ l h, j₁ l h) (sym (twelve (entry (r + l)) (entry-small (r + l)) b))
+      part_or l (bit_or x y) z ∙ ap₂ bit_or (part_or l x y ∙ ap₂ bit_or (low l h) (middle l h)) (high l h)
+      ∙ sym (twelve (entry (r + l)) (entry-small (r + l)) b)
 
-  pub rows_are : RowsFrom r b (bit_or apart (cond (member 12 b) d₂ 0))
+  pub rows_are : RowsFrom r b (bit_or (bit_or (bit_or x y) z) (cond (member 12 b) d 0))
   unfolding compose_row
   rows_are l h =
-      part_or l apart (cond (member 12 b) d₂ 0)
-      ∙ ap₂ bit_or (rows_apart l h) (part_pick l (member 12 b) d₂ ∙ ap (λ (x : ℕ). cond (member 12 b) x 0) (j₂ l h))
+      part_or l (bit_or (bit_or x y) z) (cond (member 12 b) d 0)
+      ∙ ap₂ bit_or (rows_apart l h) (part_pick l (member 12 b) d ∙ ap (λ (x : ℕ). cond (member 12 b) x 0) (last l h))
       ∙ below_next (entry (r + l)) b 12 (lit< tt) (entry-small (r + l) 12 (lit< tt)) ∙ union-small (entry (r + l)) b
 
 cut_pick : (b : Bool) (x : ℕ) → x < 8192 → bit_and x (cond b 8191 0) ≡ cond b x 0

@@ -2,6 +2,5 @@ pub mod Meaning
 pub mod Comparing
 pub mod Sets
 pub mod Composition
-pub mod Typed
 pub mod Answers
 pub mod Packed

@@ -3,7 +3,6 @@ use Rattle.std.specs.Prelude.{cond, ◌≡◌, ℕ, ◌+◌, ◌*◌, ◌/◌, �
 use Rattle.std.specs.Int.Bits.{bit_or}
 use Rattle.relation.specs.Sets.{member}
 use Rattle.relation.specs.Composition.{entry, compose_row}
-use Rattle.relation.specs.declared.Rows.{Rows}
 
 -- set l of the four
 abbrev pub part : ℕ → ℕ → ℕ
@@ -17,6 +16,10 @@ picked_of n p q v w = bit_or (bit_or (bit_or (cond (member 0 n) p 0) (cond (memb
 abbrev pub FourAt : ℕ → ℕ → ℕ → Type 0
 FourAt r s x = (l : ℕ) → l < 4 → part l x ≡ entry (r + l) s
 
+-- relations r to r + 3 with those of relations s to s + 3 that n marks
+abbrev pub PickedAt : ℕ → ℕ → ℕ → ℕ → Type 0
+PickedAt r s n x = (l : ℕ) → l < 4 → part l x ≡ picked_of n (entry (r + l) s) (entry (r + l) (s + 1)) (entry (r + l) (s + 2)) (entry (r + l) (s + 3))
+
 -- relations r to r + 3 with b
 abbrev pub RowsFrom : ℕ → ℕ → ℕ → Type 0
 RowsFrom r b x = (l : ℕ) → l < 4 → part l x ≡ compose_row (r + l) b
@@ -25,8 +28,8 @@ RowsFrom r b x = (l : ℕ) → l < 4 → part l x ≡ compose_row (r + l) b
 abbrev pub Marked : ℕ → ℕ → Type 0
 Marked n x = (l : ℕ) → l < 4 → part l x ≡ cond (member l n) 8191 0
 
--- the rows are those of their set
-pub record RowsOf (r : Rows) : Type 0 where
-  pub low : RowsFrom 0 r.set r.low
-  pub middle : RowsFrom 4 r.set r.middle
-  pub high : RowsFrom 8 r.set r.high
+-- the rows are those of the set
+pub record RowsOf (set x y z : ℕ) : Type 0 where
+  pub low : RowsFrom 0 set x
+  pub middle : RowsFrom 4 set y
+  pub high : RowsFrom 8 set z

@@ -1,60 +1,58 @@
 // Sets of the thirteen relations: converse and composition.
 #![tactic(auto)]
 
-ghost use Rattle.std.specs.Prelude.{cond, ◌≡◌, ◌+◌, ◌-◌, ◌*◌, ◌%◌, ◌^◌, ◌<◌};
+ghost use Rattle.std.specs.Prelude.{ℕ, cond, ltb, ◌≡◌, ◌+◌, ◌-◌, ◌*◌, ◌%◌, ◌^◌, ◌<◌};
 ghost use Rattle.std.specs.Int.Count.{count_trailing_zeros};
+ghost use Rattle.refusal.specs.Answered.{unless_due};
 ghost use Rattle.relation.specs.Meaning.{exchanged};
 ghost use Rattle.relation.specs.Sets.{member};
-ghost use Rattle.relation.specs.Typed.{ListsExchanged};
-ghost use Rattle.relation.specs.Composition.{table, entry, converse, compose};
-ghost use Rattle.relation.specs.Packed.{picked_of, FourAt, RowsFrom, Marked, RowsOf};
-ghost use Rattle.relation.specs.Answers.{said_of, converse_said, compose_said};
+ghost use Rattle.relation.specs.Composition.{entry, converse, compose};
+ghost use Rattle.relation.specs.Packed.{picked_of, FourAt, PickedAt, RowsFrom, Marked, RowsOf};
+ghost use Rattle.relation.specs.Answers.{said_of, how_many_sets, converse_said, compose_said};
 
 mod table;
 
 use refusal::Refusal;
+use std::marker::Model;
 use table::TABLE;
 
-// A set handed back, or why not.
-#[derive(Clone, Copy)]
-pub enum SetAnswer {
-    Set(u16),
-    Refused(Refusal),
-}
-
 // The number of each relation with the two events exchanged.
-const EXCHANGED: [u8; 13] = [1, 0, 3, 2, 5, 4, 7, 6, 9, 8, 11, 10, 12];
+static EXCHANGED: [u8; 13] = [1, 0, 3, 2, 5, 4, 7, 6, 9, 8, 11, 10, 12];
 
-// The converse of a set; refusal 3 for a set above 8191.
-pub fn converse(a: u16) -> SetAnswer
-    ensures { said_of result ≡ converse_said a }
+// A number as a set; refusal 3 for one above 8191.
+fn set_of(a: u16) -> Result<u16, Refusal>
+    ensures { said_of result ≡ unless_due (cond (ltb a how_many_sets) 0 3) a }
 {
     if a < 8192 {
-        SetAnswer::Set(converse_of(a))
+        Ok(a)
     } else {
-        SetAnswer::Refused(Refusal::SetTooLarge)
+        Err(Refusal::SetTooLarge)
     }
+}
+
+// The converse of a set; refusal 3 for a set above 8191.
+pub fn converse(a: u16) -> Result<u16, Refusal>
+    ensures { said_of result ≡ converse_said a }
+{
+    let set = set_of(a)?;
+    Ok(converse_of(set))
 }
 
 // The composition of two sets; refusal 3 where one is above 8191.
-pub fn compose(a: u16, b: u16) -> SetAnswer
+pub fn compose(a: u16, b: u16) -> Result<u16, Refusal>
     ensures { said_of result ≡ compose_said a b }
 {
-    if 8192 <= a {
-        return SetAnswer::Refused(Refusal::SetTooLarge);
-    }
-    if 8192 <= b {
-        return SetAnswer::Refused(Refusal::SetTooLarge);
-    }
-    SetAnswer::Set(compose_of(a, b))
+    let first = set_of(a)?;
+    let second = set_of(b)?;
+    Ok(compose_of(first, second))
 }
 
-// A relation with the two events exchanged, from the lent list: a constant would be copied here at every use.
-fn exchanged(list: &[u8; 13], r: usize) -> usize
-    requires { (r < 13) × ListsExchanged list.now }
+// A relation with the two events exchanged.
+fn exchanged(r: usize) -> usize
+    requires { r < 13 }
     ensures { result ≡ exchanged r }
 {
-    list[r] as usize
+    EXCHANGED[r] as usize
 }
 
 // Relation r is a member of a set.
@@ -94,33 +92,30 @@ fn given(a: u16, r: usize, x: u16) -> u16
 pub fn converse_of(a: u16) -> u16
     ensures { result ≡ converse a }
 {
-    let list = EXCHANGED;
-    let mut out: u16 = 0;
-    let mut r = 0;
-    while r < 13 {
-        out |= given(a, r, mark(exchanged(&list, r)));
-        r += 1;
+    let mut out = 0;
+    for r in 0..13 {
+        out |= given(a, r, mark(exchanged(r)));
     }
     out
 }
 
 // What relation r with relation s allows.
-fn entry(t: &[[u16; 13]; 13], r: usize, s: usize) -> u16
-    requires { (t.now ≡ table) × (r < 13) × (s < 13) }
+fn entry(r: usize, s: usize) -> u16
+    requires { (r < 13) × (s < 13) }
     ensures { result ≡ entry r s }
 {
-    t[r][s]
+    TABLE[r][s]
 }
 
 // Relations r to r + 3 with relation s: four sets in one number, with sixteen digits for each.
-fn four_at(t: &[[u16; 13]; 13], r: usize, s: usize) -> u64
-    requires { (t.now ≡ table) × (r + 3 < 13) × (s < 13) }
+fn four_at(r: usize, s: usize) -> u64
+    requires { (r + 3 < 13) × (s < 13) }
     ensures { FourAt r s result }
 {
-    let p = entry(t, r, s) as u64;
-    let q = entry(t, r + 1, s) as u64;
-    let v = entry(t, r + 2, s) as u64;
-    let w = entry(t, r + 3, s) as u64;
+    let p = entry(r, s) as u64;
+    let q = entry(r + 1, s) as u64;
+    let v = entry(r + 2, s) as u64;
+    let w = entry(r + 3, s) as u64;
     p + q * 65536 + v * 4294967296 + w * 281474976710656
 }
 
@@ -165,132 +160,82 @@ fn where_eq(b: u16, four: u64) -> u64
     if has(b, 12) { four } else { 0 }
 }
 
-// Relations 0 to 3, 4 to 7, and 8 to 11, each with a set. They stand one by one, and each is called in one place, so that the
-// compiler works the four sets out.
-fn rows_low(b: u16) -> u64
-    ensures { RowsFrom 0 b result }
+// Those of relations s to s + 3 that n marks, after each of the relations r to r + 3. Both are constants, so that the compiler works
+// the four numbers out.
+fn picked_at<const R: usize, const S: usize>(n: u16) -> u64
+    requires { (R + 3 < 13) × (S + 3 < 13) }
+    ensures { PickedAt R S n result }
 {
-    let t = TABLE;
-    let first = picked(
-        b,
-        four_at(&t, 0, 0),
-        four_at(&t, 0, 1),
-        four_at(&t, 0, 2),
-        four_at(&t, 0, 3),
-    );
-    let second = picked(
-        b / 16,
-        four_at(&t, 0, 4),
-        four_at(&t, 0, 5),
-        four_at(&t, 0, 6),
-        four_at(&t, 0, 7),
-    );
-    let third = picked(
-        b / 256,
-        four_at(&t, 0, 8),
-        four_at(&t, 0, 9),
-        four_at(&t, 0, 10),
-        four_at(&t, 0, 11),
-    );
-    first | second | third | where_eq(b, four_at(&t, 0, 12))
+    picked(
+        n,
+        four_at(R, S),
+        four_at(R, S + 1),
+        four_at(R, S + 2),
+        four_at(R, S + 3),
+    )
 }
 
-fn rows_middle(b: u16) -> u64
-    ensures { RowsFrom 4 b result }
+// Relations r to r + 3, each with a set.
+fn rows_from<const R: usize>(b: u16) -> u64
+    requires { R + 3 < 13 }
+    ensures { RowsFrom R b result }
 {
-    let t = TABLE;
-    let first = picked(
-        b,
-        four_at(&t, 4, 0),
-        four_at(&t, 4, 1),
-        four_at(&t, 4, 2),
-        four_at(&t, 4, 3),
-    );
-    let second = picked(
-        b / 16,
-        four_at(&t, 4, 4),
-        four_at(&t, 4, 5),
-        four_at(&t, 4, 6),
-        four_at(&t, 4, 7),
-    );
-    let third = picked(
-        b / 256,
-        four_at(&t, 4, 8),
-        four_at(&t, 4, 9),
-        four_at(&t, 4, 10),
-        four_at(&t, 4, 11),
-    );
-    first | second | third | where_eq(b, four_at(&t, 4, 12))
+    let first = picked_at::<R, 0>(b);
+    let second = picked_at::<R, 4>(b / 16);
+    let third = picked_at::<R, 8>(b / 256);
+    first | second | third | where_eq(b, four_at(R, 12))
 }
 
-fn rows_high(b: u16) -> u64
-    ensures { RowsFrom 8 b result }
-{
-    let t = TABLE;
-    let first = picked(
-        b,
-        four_at(&t, 8, 0),
-        four_at(&t, 8, 1),
-        four_at(&t, 8, 2),
-        four_at(&t, 8, 3),
-    );
-    let second = picked(
-        b / 16,
-        four_at(&t, 8, 4),
-        four_at(&t, 8, 5),
-        four_at(&t, 8, 6),
-        four_at(&t, 8, 7),
-    );
-    let third = picked(
-        b / 256,
-        four_at(&t, 8, 8),
-        four_at(&t, 8, 9),
-        four_at(&t, 8, 10),
-        four_at(&t, 8, 11),
-    );
-    first | second | third | where_eq(b, four_at(&t, 8, 12))
-}
-
-// The twelve relations but eq, each with a set, four to a number; and the set, which is the row of eq.
-#[derive(Clone, Copy)]
+// The thirteen relations, each with a set: the twelve but eq four to a number, and the set itself, which is the row of eq.
+#[derive(Drop)]
 pub struct Rows {
-    pub low: u64,
-    pub middle: u64,
-    pub high: u64,
-    pub set: u16,
+    low: u64,
+    middle: u64,
+    high: u64,
+    set: u16,
 }
 
-pub fn rows_of(b: u16) -> Rows
-    ensures { (result.set ≡ b) × RowsOf result }
-{
-    let low = rows_low(b);
-    let middle = rows_middle(b);
-    let high = rows_high(b);
-    Rows {
-        low,
-        middle,
-        high,
-        set: b,
+// In a contract the rows are their set.
+impl Model for Rows {
+    ghost Value = { ℕ };
+
+    ghost view = { λ r. r.set };
+
+    ghost invariant = { λ r. RowsOf r.set r.low r.middle r.high };
+}
+
+impl Rows {
+    // The rows of a set.
+    pub fn of(set: u16) -> Rows
+        ensures { result ≡ set }
+    {
+        let low = rows_from::<0>(set);
+        let middle = rows_from::<4>(set);
+        let high = rows_from::<8>(set);
+        Rows {
+            low,
+            middle,
+            high,
+            set,
+        }
     }
-}
 
-// The composition of a set with the set of the rows.
-pub fn compose_by(a: u16, rows: Rows) -> u16
-    requires { RowsOf rows }
-    ensures { result ≡ compose a rows.set }
-{
-    let low = rows.low & marked(a);
-    let middle = rows.middle & marked(a / 16);
-    let high = rows.high & marked(a / 256);
-    let four = low | middle | high;
-    let all = (four | four >> 16 | four >> 32 | four >> 48) % 8192;
-    all as u16 | given(a, 12, rows.set % 8192)
+    // The composition of a set with that of the rows.
+    pub fn compose(&self, a: u16) -> u16
+        ensures { result ≡ compose a self.now }
+    {
+        let low = self.low & marked(a);
+        let middle = self.middle & marked(a / 16);
+        let high = self.high & marked(a / 256);
+        let four = low | middle | high;
+        let all = (four | four >> 16 | four >> 32 | four >> 48) % 8192;
+        all as u16 | given(a, 12, self.set % 8192)
+    }
 }
 
 // The composition of two sets, for a single call.
 fn compose_of(a: u16, b: u16) -> u16
     ensures { result ≡ compose a b }
 {
-    let rows = rows_of(b);
-    compose_by(a, rows)
+    Rows::of(b).compose(a)
 }

@@ -1,5 +1,5 @@
 // The table of 169 sets: row r, column s is the composition of relations r and s.
-pub const TABLE: [[u16; 13]; 13] = [
+pub static TABLE: [[u16; 13]; 13] = [
     [1, 8191, 1, 341, 1, 341, 1, 1, 341, 1, 341, 1, 1],
     [8191, 2, 1322, 2, 1322, 2, 1322, 2, 1322, 2, 2, 2, 2],
     [1, 682, 1, 7168, 1, 336, 4, 4, 336, 1, 336, 1, 4],

@@ -1,6 +1,8 @@
--- The table has the entry.
-use Rattle.relation.proofs.Laws.{entry_read}
+-- The typed table is that of the definition.
+use mathlib.Core.Path.{refl}
+use Rattle.relation.specs.Composition.{table, entry}
 use Rattle.relation.proofs.entry.Goals as goal
 
 pub returns : goal.returns
-returns c = entry_read _ _ _ c.requires.0
+unfolding entry table
+returns c = refl
