@@ -1,12 +1,11 @@
 -- Rules 3.2 and 7: when a grid is accepted, and the refusals 1 to 5.
-use Rattle.std.specs.Prelude.{◌≡◌, Bool, not, cond, List, ℕ, ◌*◌, ◌≤◌, ◌<◌, eqb, ltb, length, get_or}
+use Rattle.std.specs.Prelude.{◌≡◌, Bool, not, cond, List, ℕ, ◌*◌, ◌≤◌, ◌<◌, eqb, ltb, length, get_or, Result, Ok, Err}
 use Rattle.refusal.specs.Answered.{first_of}
 use Rattle.refusal.specs.Numbers.{number_of}
 use Rattle.relation.specs.Sets.{some}
 use Rattle.relation.specs.Composition.{converse}
 use Rattle.grid.specs.Cells.{cell}
-use Rattle.grid.specs.declared.Judged.{Judged}
-use Rattle.grid.specs.declared.Judged.TheVariants.{Accepted as accepted, Refused}
+use Rattle.refusal.specs.declared.Refusal.{Refusal}
 
 pub record Accepted (n : ℕ) (g : List ℕ) : Type 0 where
   pub few : n ≤ 32
@@ -47,6 +46,6 @@ abbrev pub grid_refusal : ℕ → List ℕ → ℕ
 grid_refusal n g = first_of (size_refusal n g) (cell_refusal n g)
 
 -- an answer's number
-abbrev pub judged_number : Judged → ℕ
-judged_number accepted = 0
-judged_number (Refused r) = number_of r
+abbrev pub judged_number : Result (Unit {0}) Refusal → ℕ
+judged_number (Ok u) = 0
+judged_number (Err r) = number_of r

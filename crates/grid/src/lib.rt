@@ -16,12 +16,9 @@ pub const ALL: u16 = 8191;
 
 pub const EQ: u16 = 4096;
 
-// What is found of something handed in.
+// A cell became empty, so no placing meets the grid.
 #[derive(Clone, Copy)]
-pub enum Judged {
-    Accepted,
-    Refused(Refusal),
-}
+pub struct Emptied;
 
 // Cell (i, j).
 pub fn get(g: &[u16], n: usize, i: usize, j: usize) -> u16
@@ -49,21 +46,13 @@ pub fn put_both(g: &mut [u16], n: usize, i: usize, j: usize, a: u16)
     put(g, n, j, i, turned);
 }
 
-pub fn either(a: bool, b: bool) -> bool
-    ensures { result ≡ (a || b) }
-{
-    if a { true } else { b }
-}
-
 // Some cell is empty. The loop goes on where one is found, so that the processor can look at eight cells at a time.
 pub fn some_empty(g: &[u16]) -> bool
     ensures { result ≡ some_empty g.now }
 {
     let mut found = false;
-    let mut p = 0;
-    while p < g.len() {
-        found = either(found, g[p] == 0);
-        p += 1;
+    for cell in g {
+        found |= *cell == 0;
     }
     found
 }
@@ -72,11 +61,7 @@ pub fn some_empty(g: &[u16]) -> bool
 pub fn clear(g: &mut [u16])
     ensures { g.new ≡ replicate (length g.old) 0 }
 {
-    let mut p = 0;
-    while p < g.len() {
-        g[p] = 0;
-        p += 1;
-    }
+    g.fill(0);
 }
 
 // The first m cells become those of another grid.
@@ -84,52 +69,45 @@ pub fn copy(to: &mut [u16], from: &[u16], m: usize)
     requires { (m ≤ length to.old) × (m ≤ length from.now) }
     ensures { to.new ≡ take m from.now ++ drop m to.old }
 {
-    let mut k = 0;
-    while k < m {
-        to[k] = from[k];
-        k += 1;
-    }
+    to[..m].copy_from_slice(&from[..m]);
 }
 
 // Refusals 1 and 2 of a grid.
-pub fn judge_size(g: &[u16], n: usize) -> Judged
+pub fn judge_size(g: &[u16], n: usize) -> Result<(), Refusal>
     ensures { judged_number result ≡ size_refusal n g.now }
 {
     if EVENTS < n {
-        return Judged::Refused(Refusal::TooManyEvents);
+        return Err(Refusal::TooManyEvents);
     }
     if g.len() != n * n {
-        return Judged::Refused(Refusal::WrongLength);
+        return Err(Refusal::WrongLength);
     }
-    Judged::Accepted
+    Ok(())
 }
 
 // Refusals 3, 4 and 5 of a grid of the right length.
-pub fn judge_cells(g: &[u16], n: usize) -> Judged
+pub fn judge_cells(g: &[u16], n: usize) -> Result<(), Refusal>
     requires { (n ≤ 32) × (length g.now ≡ n * n) }
     ensures { judged_number result ≡ cell_refusal n g.now }
 {
     if some_large(g) {
-        return Judged::Refused(Refusal::SetTooLarge);
+        return Err(Refusal::SetTooLarge);
     }
     if some_not_eq(g, n) {
-        return Judged::Refused(Refusal::DiagonalNotEq);
+        return Err(Refusal::DiagonalNotEq);
     }
     if some_unlike(g, n) {
-        return Judged::Refused(Refusal::MirrorNotConverse);
+        return Err(Refusal::MirrorNotConverse);
     }
-    Judged::Accepted
+    Ok(())
 }
 
 // Refusals 1 to 5 of a grid.
-pub fn judge(g: &[u16], n: usize) -> Judged
+pub fn judge(g: &[u16], n: usize) -> Result<(), Refusal>
     ensures { judged_number result ≡ grid_refusal n g.now }
 {
-    let size = judge_size(g, n);
-    match size {
-        Judged::Accepted => judge_cells(g, n),
-        Judged::Refused(r) => Judged::Refused(r),
-    }
+    judge_size(g, n)?;
+    judge_cells(g, n)
 }
 
 // Some cell is above 8191. As above, the loop goes on to the end.
@@ -137,10 +115,8 @@ fn some_large(g: &[u16]) -> bool
     ensures { result ≡ some_large g.now }
 {
     let mut found = false;
-    let mut p = 0;
-    while p < g.len() {
-        found = either(found, ALL < g[p]);
-        p += 1;
+    for cell in g {
+        found |= ALL < *cell;
     }
     found
 }
@@ -150,12 +126,10 @@ fn some_not_eq(g: &[u16], n: usize) -> bool
     requires { (n ≤ 32) × (length g.now ≡ n * n) }
     ensures { result ≡ some_not_eq n g.now }
 {
-    let mut i = 0;
-    while i < n {
+    for i in 0..n {
         if get(g, n, i, i) != EQ {
             return true;
         }
-        i += 1;
     }
     false
 }
@@ -178,12 +152,10 @@ fn row_unlike(g: &[u16], n: usize, i: usize) -> bool
     requires { (n ≤ 32) × (i < n) × (length g.now ≡ n * n) }
     ensures { result ≡ above_unlike n g.now i }
 {
-    let mut j = i + 1;
-    while j < n {
+    for j in i + 1..n {
         if is_unlike(g, n, i, j) {
             return true;
         }
-        j += 1;
     }
     false
 }
@@ -193,12 +165,10 @@ fn some_unlike(g: &[u16], n: usize) -> bool
     requires { (n ≤ 32) × (length g.now ≡ n * n) × (some_large g.now ≡ false) × (some_not_eq n g.now ≡ false) }
     ensures { result ≡ some_unlike n g.now }
 {
-    let mut i = 0;
-    while i < n {
+    for i in 0..n {
         if row_unlike(g, n, i) {
             return true;
         }
-        i += 1;
     }
     false
 }

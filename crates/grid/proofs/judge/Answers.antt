@@ -6,10 +6,4 @@ use Rattle.grid.proofs.JudgedLaws.{judged_accepted, judged_refused}
 use Rattle.grid.proofs.judge.Goals as goal
 
 pub judge_cells-requires : goal.judge_cells-requires
-judge_cells-requires c = let s = sized _ _ (judged_accepted _ _ c.judge_size-size.ensures c.in-Accepted.is) in (s.few, s.long)
-
-pub returns-in-Accepted : goal.returns-in-Accepted
-returns-in-Accepted c = c.judge_cells.ensures ∙ sym (first_next _ _ (judged_accepted _ _ c.judge_size-size.ensures c.in-Accepted.is))
-
-pub returns-in-Refused : goal.returns-in-Refused
-returns-in-Refused c = judged_refused _ _ _ _ c.judge_size-size.ensures c.in-Refused.is
+judge_cells-requires c = let s = sized _ _ (judged_accepted _ _ c.judge_size.ensures c.in_ok-judge_size.was) in (s.few, s.long)

@@ -7,15 +7,15 @@ use borrow.Author.Rules.{rules}
 use Rattle.grid.proofs.row_unlike.Goals as goal
 
 pub loop-j-init : goal.loop-j-init
-loop-j-init c = (omega arith, search rules, above_begins _ _ _)
+loop-j-init c = above_begins _ _ _
 
 pub returns-then-is_unlike : goal.returns-then-is_unlike
-returns-then-is_unlike c = sym (some_yes _ (above _ _ _) c.loop-j.j c.loop-j-test.true (above_found _ _ _ c.loop-j.j c.loop-j.invariant.0 (sym c.is_unlike.ensures ∙ c.if-is_unlike.true)))
+returns-then-is_unlike c = sym (some_yes _ (above _ _ _) c.loop-j.j c.loop-j-test.true (above_found _ _ _ c.loop-j.j (omega arith) (sym c.is_unlike.ensures ∙ c.if-is_unlike.true)))
 
 pub loop-j-preserved : goal.loop-j-preserved
-loop-j-preserved c = (omega (arith, c.loop-j.invariant.0), search rules, above_more _ _ _ c.loop-j.j c.loop-j.invariant.0 c.loop-j.invariant.2 (sym c.is_unlike.ensures ∙ c.if-is_unlike.false))
+loop-j-preserved c = above_more _ _ _ c.loop-j.j (omega arith) c.loop-j.invariant (sym c.is_unlike.ensures ∙ c.if-is_unlike.false)
 
 pub returns : goal.returns
 returns c =
-    let e : c.loop-j.j ≡ c.args.n = omega (arith, c.loop-j.invariant.1, c.loop-j-test.false) in
-    sym (some_no _ _ (subst (NoneBelow (above _ _ _)) e c.loop-j.invariant.2))
+    let e : c.loop-j.j ≡ c.args.n = omega arith in
+    sym (some_no _ _ (subst (NoneBelow (above _ _ _)) e c.loop-j.invariant))

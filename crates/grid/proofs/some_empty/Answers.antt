@@ -6,18 +6,17 @@ use lib.ListN.{length}
 use Rattle.relation.specs.Sets.{some}
 use Rattle.relation.proofs.Tested.{some_next}
 use native.Mathlib.Omega.{arith}
-use borrow.Author.Rules.{rules}
 use Rattle.grid.proofs.some_empty.Invariants.{empty}
 use Rattle.grid.proofs.some_empty.Goals as goal
 
-pub loop-p-init : goal.loop-p-init
+pub loop-cell-init : goal.loop-cell-init
 unfolding some
-loop-p-init c = (search rules, refl)
+loop-cell-init c = refl
 
-pub loop-p-preserved : goal.loop-p-preserved
-loop-p-preserved c = (search rules, c.either-found.ensures ∙ ap (λ (x : Bool). x || empty c.args.g.now c.loop-p.p) c.loop-p.invariant.1 ∙ some_next c.loop-p.p (empty c.args.g.now))
+pub loop-cell-preserved : goal.loop-cell-preserved
+loop-cell-preserved c = ap (λ (x : Bool). x || empty c.args.g.now c.loop-cell.cell-index) c.loop-cell.invariant ∙ some_next c.loop-cell.cell-index (empty c.args.g.now)
 
 pub returns : goal.returns
 returns c =
-    let e : c.loop-p.p ≡ length c.args.g.now = omega arith in
-    c.loop-p.invariant.1 ∙ ap (λ (m : ℕ). some m (empty c.args.g.now)) e
+    let e : c.loop-cell.cell-index ≡ length c.args.g.now = omega arith in
+    c.loop-cell.invariant ∙ ap (λ (m : ℕ). some m (empty c.args.g.now)) e

@@ -1,17 +1,14 @@
 use mathlib.Core.Path.{◌≡◌}
 use mathlib.Core.Bool.{Bool}
 use mathlib.Core.List.{List}
-use Prim.Native.Nat.{ℕ, ◌-◌, ◌≤◌}
+use Prim.Native.Nat.{ℕ}
 use lib.Dec.{ltb}
-use lib.ListN.{length, get_or}
+use lib.ListN.{get_or}
 use Rattle.relation.specs.Sets.{some}
 use Rattle.grid.proofs.some_large.Given as goal
 
 abbrev pub large : List ℕ → ℕ → Bool
 large g k = ltb 8191 (get_or g k 0)
 
-abbrev pub invariant-loop-p : goal.invariant-loop-p
-invariant-loop-p l = (l.p ≤ length l.g) × (l.found ≡ some l.p (large l.g))
-
-abbrev pub decreases-loop-p : goal.decreases-loop-p
-decreases-loop-p l = length l.g - l.p
+abbrev pub invariant-loop-cell : goal.invariant-loop-cell
+invariant-loop-cell l = l.found ≡ some l.cell-index (large l.g)

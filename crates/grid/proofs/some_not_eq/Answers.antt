@@ -9,7 +9,7 @@ use native.Mathlib.Omega.{arith}
 use Rattle.grid.proofs.some_not_eq.Goals as goal
 
 pub loop-i-init : goal.loop-i-init
-loop-i-init c = (search rules, λ i h. absurd (omega arith))
+loop-i-init c = λ i h. absurd (omega arith)
 
 pub get-requires : goal.get-requires
 get-requires c = (search rules, search rules, search rules, omega arith)
@@ -18,9 +18,9 @@ pub returns-then-get-ne-EQ : goal.returns-then-get-ne-EQ
 returns-then-get-ne-EQ c = sym (some_yes c.args.n (not_eq c.args.n c.args.g.now) c.loop-i.i (search rules) (ap not (ne_eqb _ _ (λ e. c.if-get-ne-EQ.true (c.get.ensures ∙ e)))))
 
 pub loop-i-preserved : goal.loop-i-preserved
-loop-i-preserved c = (search rules, none_more (not_eq c.args.n c.args.g.now) c.loop-i.i c.loop-i.invariant.1 (ap not (eq-eqb _ _ (sym c.get.ensures ∙ c.if-get-ne-EQ.false))))
+loop-i-preserved c = none_more (not_eq c.args.n c.args.g.now) c.loop-i.i c.loop-i.invariant (ap not (eq-eqb _ _ (sym c.get.ensures ∙ c.if-get-ne-EQ.false)))
 
 pub returns : goal.returns
 returns c =
     let e : c.loop-i.i ≡ c.args.n = omega arith in
-    sym (some_no c.args.n (not_eq c.args.n c.args.g.now) (subst (NoneBelow (not_eq c.args.n c.args.g.now)) e c.loop-i.invariant.1))
+    sym (some_no c.args.n (not_eq c.args.n c.args.g.now) (subst (NoneBelow (not_eq c.args.n c.args.g.now)) e c.loop-i.invariant))
