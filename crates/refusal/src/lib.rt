@@ -4,39 +4,26 @@
 ghost use Rattle.std.specs.Prelude.{◌≡◌};
 ghost use Rattle.refusal.specs.Numbers.{number_of};
 
-// Why something handed in was not taken.
+// Why something handed in was not taken, and its number.
 #[derive(Clone, Copy)]
 pub enum Refusal {
-    TooManyEvents,
-    WrongLength,
-    SetTooLarge,
-    DiagonalNotEq,
-    MirrorNotConverse,
-    PlacingLength,
-    StartNotBeforeEnd,
-    SheetTooLong,
-    LineForm,
-    NameTwice,
-    NoSuchEvent,
-    AboutItself,
+    TooManyEvents = 1,
+    WrongLength = 2,
+    SetTooLarge = 3,
+    DiagonalNotEq = 4,
+    MirrorNotConverse = 5,
+    PlacingLength = 6,
+    StartNotBeforeEnd = 7,
+    SheetTooLong = 8,
+    LineForm = 9,
+    NameTwice = 10,
+    NoSuchEvent = 11,
+    AboutItself = 12,
 }
 
 // The number of a refusal.
 pub fn number_of(refusal: Refusal) -> u8
     ensures { result ≡ number_of refusal }
 {
-    match refusal {
-        Refusal::TooManyEvents => 1,
-        Refusal::WrongLength => 2,
-        Refusal::SetTooLarge => 3,
-        Refusal::DiagonalNotEq => 4,
-        Refusal::MirrorNotConverse => 5,
-        Refusal::PlacingLength => 6,
-        Refusal::StartNotBeforeEnd => 7,
-        Refusal::SheetTooLong => 8,
-        Refusal::LineForm => 9,
-        Refusal::NameTwice => 10,
-        Refusal::NoSuchEvent => 11,
-        Refusal::AboutItself => 12,
-    }
+    refusal as u8
 }

@@ -17,11 +17,8 @@ pub fn fill_start(g: &mut [u16], n: usize)
     requires { (n ≤ 32) × (n * n ≤ length g.old) }
     ensures { take (n * n) g.new ≡ start_grid n }
 {
-    let m = n * n;
-    let mut p = 0;
-    while p < m {
+    for p in 0..n * n {
         g[p] = start_cell(n, p);
-        p += 1;
     }
 }
 
