@@ -2,7 +2,7 @@
 use mathlib.Core.Path.{◌≡◌, sym, ap, ap₂, ◌∙◌, subst}
 use mathlib.Core.Bool.{Bool, true, false, not, ◌&&◌}
 use mathlib.Core.List.{List}
-use Prim.Native.Nat.{ℕ, ◌+◌, ◌*◌, ◌<◌}
+use Prim.Native.Nat.{ℕ, ◌+◌, ◌*◌, ◌≤◌, ◌<◌}
 use native.Mathlib.Decide.{ℕ_discrete, dec_lt}
 use native.Mathlib.Omega.{arith}
 use borrow.Author.Tests.{lt-ltb, le-ltb, ltb-false, eqb-true, eq-eqb, ne_eqb, not-false}
@@ -43,11 +43,11 @@ module _ (n : ℕ) (g : List ℕ) (i : ℕ) where
 
 -- ---- all rows
 
-module _ (n : ℕ) (g : List ℕ) (long : length g ≡ n * n) (small : some_large g ≡ false) (diagonal : some_not_eq n g ≡ false) where
+module _ (n : ℕ) (g : List ℕ) (fits : n * n ≤ length g) (small : some_large g ≡ false) (diagonal : some_not_eq n g ≡ false) where
   set_lt : (i j : ℕ) → i < n → j < n → cell n g i j < 8192
   unfolding cell
   set_lt i j hi hj =
-      omega (arith, ltb-false 8191 (get_or g (i * n + j) 0) (none_passes (length g) (λ p. ltb 8191 (get_or g p 0)) small (i * n + j) (omega (arith, digits_lt hi hj, long))))
+      omega (arith, ltb-false 8191 (get_or g (i * n + j) 0) (none_passes (length g) (λ p. ltb 8191 (get_or g p 0)) small (i * n + j) (omega (arith, digits_lt hi hj, fits))))
 
   -- an unlike pair is unlike the other way round too
   unlike-back : (i j : ℕ) → i < n → j < n → T (unlike n g i j) → T (unlike n g j i)

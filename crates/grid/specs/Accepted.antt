@@ -46,6 +46,6 @@ abbrev pub grid_refusal : ℕ → List ℕ → ℕ
 grid_refusal n g = first_of (size_refusal n g) (cell_refusal n g)
 
 -- an answer's number
-abbrev pub judged_number : Result (Unit {0}) Refusal → ℕ
+abbrev pub judged_number : {A : Type 0} → Result A Refusal → ℕ
 judged_number (Ok u) = 0
 judged_number (Err r) = number_of r

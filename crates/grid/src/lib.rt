@@ -1,7 +1,7 @@
 // Grids: where a cell stands, and which grids are accepted.
 #![tactic(auto)]
 
-ghost use Rattle.std.specs.Prelude.{◌≡◌, false, ◌||◌, ◌++◌, ◌*◌, ◌≤◌, ◌<◌, length, take, drop, replicate};
+ghost use Rattle.std.specs.Prelude.{IfOk, ◌≡◌, false, ◌||◌, ◌++◌, ◌*◌, ◌≤◌, ◌<◌, length, take, drop, replicate};
 ghost use Rattle.relation.specs.Composition.{converse};
 ghost use Rattle.grid.specs.Cells.{cell, put, put_both, some_empty};
 ghost use Rattle.grid.specs.Accepted.{size_refusal, cell_refusal, grid_refusal, some_large, some_not_eq, unlike, some_unlike, judged_number};
@@ -19,6 +19,15 @@ pub const EQ: u16 = 4096;
 // A cell became empty, so no placing meets the grid.
 #[derive(Clone, Copy)]
 pub struct Emptied;
+
+// A grid of at most 32 events in the cells lent: there are n × n of them or more.
+#[derive(Clone, Copy)]
+pub struct Grid<'a> {
+    pub cells: &'a [u16],
+    pub n: usize,
+    ghost few: { n ≤ 32 },
+    ghost fits: { n * n ≤ length cells.now },
+}
 
 // Cell (i, j).
 pub fn get(g: &[u16], n: usize, i: usize, j: usize) -> u16
@@ -72,42 +81,102 @@ pub fn copy(to: &mut [u16], from: &[u16], m: usize)
     to[..m].copy_from_slice(&from[..m]);
 }
 
-// Refusals 1 and 2 of a grid.
-pub fn judge_size(g: &[u16], n: usize) -> Result<(), Refusal>
-    ensures { judged_number result ≡ size_refusal n g.now }
-{
-    if EVENTS < n {
-        return Err(Refusal::TooManyEvents);
+impl<'a> Grid<'a> {
+    // A grid of n events, in just so many cells; else refusal 1 or 2.
+    pub fn sized(cells: &'a [u16], n: usize) -> Result<Grid<'a>, Refusal>
+        ensures refusal { judged_number result ≡ size_refusal n cells.entry.now }
+        ensures same { IfOk result (λ g. (g.n ≡ n) × (g.cells ≡ cells.entry)) }
+    {
+        if EVENTS < n {
+            return Err(Refusal::TooManyEvents);
+        }
+        if cells.len() != n * n {
+            return Err(Refusal::WrongLength);
+        }
+        Ok(Grid { cells, n })
     }
-    if g.len() != n * n {
-        return Err(Refusal::WrongLength);
-    }
-    Ok(())
-}
 
-// Refusals 3, 4 and 5 of a grid of the right length.
-pub fn judge_cells(g: &[u16], n: usize) -> Result<(), Refusal>
-    requires { (n ≤ 32) × (length g.now ≡ n * n) }
-    ensures { judged_number result ≡ cell_refusal n g.now }
-{
-    if some_large(g) {
-        return Err(Refusal::SetTooLarge);
+    // Cell (i, j).
+    pub fn get(self, i: usize, j: usize) -> u16
+        requires { (i < self.n) × (j < self.n) }
+        ensures { result ≡ cell self.entry.n self.entry.cells.now i j }
+    {
+        get(self.cells, self.n, i, j)
     }
-    if some_not_eq(g, n) {
-        return Err(Refusal::DiagonalNotEq);
+
+    // Refusals 3, 4 and 5.
+    pub fn judge_cells(self) -> Result<(), Refusal>
+        ensures { judged_number result ≡ cell_refusal self.entry.n self.entry.cells.now }
+    {
+        if some_large(self.cells) {
+            return Err(Refusal::SetTooLarge);
+        }
+        if self.some_not_eq() {
+            return Err(Refusal::DiagonalNotEq);
+        }
+        if self.some_unlike() {
+            return Err(Refusal::MirrorNotConverse);
+        }
+        Ok(())
     }
-    if some_unlike(g, n) {
-        return Err(Refusal::MirrorNotConverse);
+
+    // Some diagonal cell is not {eq}.
+    fn some_not_eq(self) -> bool
+        ensures { result ≡ some_not_eq self.entry.n self.entry.cells.now }
+    {
+        for i in 0..self.n {
+            if self.get(i, i) != EQ {
+                return true;
+            }
+        }
+        false
     }
-    Ok(())
+
+    // Cell (j, i) is not the converse of cell (i, j). Where nothing is said of i to j, there is nothing to turn round.
+    fn is_unlike(self, i: usize, j: usize) -> bool
+        requires { (i < self.n) × (j < self.n) }
+        ensures { result ≡ unlike self.entry.n self.entry.cells.now i j }
+    {
+        let set = self.get(i, j);
+        let mirror = self.get(j, i);
+        if set == ALL {
+            return mirror != ALL;
+        }
+        mirror != relation::converse_of(set)
+    }
+
+    // Some cell of row i above the diagonal is not the converse of its mirror.
+    fn row_unlike(self, i: usize) -> bool
+        requires { i < self.n }
+        ensures { result ≡ above_unlike self.entry.n self.entry.cells.now i }
+    {
+        for j in i + 1..self.n {
+            if self.is_unlike(i, j) {
+                return true;
+            }
+        }
+        false
+    }
+
+    // Some cell is not the converse of its mirror. The cells above the diagonal tell, as the others are all right so far.
+    fn some_unlike(self) -> bool
+        requires { (some_large self.cells.now ≡ false) × (some_not_eq self.n self.cells.now ≡ false) }
+        ensures { result ≡ some_unlike self.entry.n self.entry.cells.now }
+    {
+        for i in 0..self.n {
+            if self.row_unlike(i) {
+                return true;
+            }
+        }
+        false
+    }
 }
 
 // Refusals 1 to 5 of a grid.
 pub fn judge(g: &[u16], n: usize) -> Result<(), Refusal>
     ensures { judged_number result ≡ grid_refusal n g.now }
 {
-    judge_size(g, n)?;
-    judge_cells(g, n)
+    Grid::sized(g, n)?.judge_cells()
 }
 
 // Some cell is above 8191. As above, the loop goes on to the end.
@@ -119,56 +188,4 @@ fn some_large(g: &[u16]) -> bool
         found |= ALL < *cell;
     }
     found
-}
-
-// Some diagonal cell is not {eq}.
-fn some_not_eq(g: &[u16], n: usize) -> bool
-    requires { (n ≤ 32) × (length g.now ≡ n * n) }
-    ensures { result ≡ some_not_eq n g.now }
-{
-    for i in 0..n {
-        if get(g, n, i, i) != EQ {
-            return true;
-        }
-    }
-    false
-}
-
-// Cell (j, i) is not the converse of cell (i, j). Where nothing is said of i to j, there is nothing to turn round.
-fn is_unlike(g: &[u16], n: usize, i: usize, j: usize) -> bool
-    requires { (n ≤ 32) × (i < n) × (j < n) × (length g.now ≡ n * n) }
-    ensures { result ≡ unlike n g.now i j }
-{
-    let set = get(g, n, i, j);
-    let mirror = get(g, n, j, i);
-    if set == ALL {
-        return mirror != ALL;
-    }
-    mirror != relation::converse_of(set)
-}
-
-// Some cell of row i above the diagonal is not the converse of its mirror.
-fn row_unlike(g: &[u16], n: usize, i: usize) -> bool
-    requires { (n ≤ 32) × (i < n) × (length g.now ≡ n * n) }
-    ensures { result ≡ above_unlike n g.now i }
-{
-    for j in i + 1..n {
-        if is_unlike(g, n, i, j) {
-            return true;
-        }
-    }
-    false
-}
-
-// Some cell is not the converse of its mirror. The cells above the diagonal tell, as the others are all right so far.
-fn some_unlike(g: &[u16], n: usize) -> bool
-    requires { (n ≤ 32) × (length g.now ≡ n * n) × (some_large g.now ≡ false) × (some_not_eq n g.now ≡ false) }
-    ensures { result ≡ some_unlike n g.now }
-{
-    for i in 0..n {
-        if row_unlike(g, n, i) {
-            return true;
-        }
-    }
-    false
 }

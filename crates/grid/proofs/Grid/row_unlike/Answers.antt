@@ -4,7 +4,7 @@ use Rattle.relation.proofs.Tested.{NoneBelow, some_yes, some_no}
 use Rattle.grid.proofs.UnlikeLaws.{above, above_begins, above_more, above_found}
 use native.Mathlib.Omega.{arith}
 use borrow.Author.Rules.{rules}
-use Rattle.grid.proofs.row_unlike.Goals as goal
+use Rattle.grid.proofs.Grid.row_unlike.Goals as goal
 
 pub loop-j-init : goal.loop-j-init
 loop-j-init c = above_begins _ _ _
@@ -17,5 +17,5 @@ loop-j-preserved c = above_more _ _ _ c.loop-j.j (omega arith) c.loop-j.invarian
 
 pub returns : goal.returns
 returns c =
-    let e : c.loop-j.j ≡ c.args.n = omega arith in
+    let e : c.loop-j.j ≡ c.args.self.n = omega arith in
     sym (some_no _ _ (subst (NoneBelow (above _ _ _)) e c.loop-j.invariant))

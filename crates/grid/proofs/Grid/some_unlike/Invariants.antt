@@ -1,6 +1,6 @@
 use Rattle.grid.specs.Steps.{above_unlike}
 use Rattle.relation.proofs.Tested.{NoneBelow}
-use Rattle.grid.proofs.some_unlike.Given as goal
+use Rattle.grid.proofs.Grid.some_unlike.Given as goal
 
 abbrev pub invariant-loop-i : goal.invariant-loop-i
-invariant-loop-i l = NoneBelow (above_unlike l.n l.g) l.i
+invariant-loop-i l = NoneBelow (above_unlike l.self.n l.self.cells.now) l.i
