@@ -3,6 +3,7 @@ use mathlib.Core.Path.{◌≡◌, refl, ◌∙◌, sym, ap, subst}
 use mathlib.Core.List.{List}
 use Prim.Native.Nat.{ℕ, zero, suc, ◌+◌, ◌*◌, ◌/◌, ◌%◌, ◌≤◌, ◌<◌}
 use native.Mathlib.Omega.{arith}
+use Rattle.std.specs.Prelude.{Option, None, Some, Result, Ok, Err}
 use native.Mathlib.Decide.{ℕ_discrete}
 use borrow.Author.Tests.{eq-eqb, ne_eqb}
 use Rattle.relation.specs.Composition.{converse}
@@ -17,11 +18,9 @@ use Rattle.theory.proofs.StepLaws.{turn-still, left-all, left-still, rest, rest-
 use Rattle.theory.proofs.CutsLaws.{first-from, first_via, first_to, second_from, second_via, second-to, cut_skip_i, cut_made, cut-at-still, cuts-going, turned_cut, turned_still, turned_less}
 use Rattle.theory.proofs.AllenLaws.{lawful, past_first, past_second}
 use Rattle.theory.proofs.FairLaws.{fair_good}
-use Rattle.takes.specs.Waiting.{queue_of}
-use Rattle.takes.specs.Steps.{seen, Sound, Steps, FairIf, Quiet, Changes, Passes, Finds, Waits, waiting_in}
-use Rattle.takes.specs.declared.Line.{Line}
-use Rattle.takes.specs.declared.Cut.{Cut}
-use Rattle.takes.specs.declared.Cut.TheVariants.{Dead, Going}
+use Rattle.takes.specs.Steps.{stepped, Quiet, Changes, Passes, First, Finds}
+use Rattle.takes.specs.declared.Emptied.{Emptied}
+use Rattle.takes.specs.declared.Found.{Found}
 
 -- the two cuts at k, from what is left in its row
 module _ (n i j k : ℕ) (g : List ℕ) (F : Fair allen n g) (hi : i < n) (hj : j < n) (hk : k < n) (x y : ℕ) where
@@ -62,10 +61,8 @@ module _ (n i j : ℕ) (g : List ℕ) (c : ℕ) where
   pub passes-more : (r : ℕ) → r < n * 2 → Passes n i j g c r → Quiet n i j g r → Passes n i j g c (r + 1)
   passes-more r h p s = record { from = omega (arith, p.from); within = omega arith; same = λ q. p.same q ∙ cuts-going allen n i j r g q h g q (s q) }
 
-  pub finds_end : (r : ℕ) → n * 2 ≤ r → Passes n i j g c r → Finds n i j g c (n * 2) 0
-  finds_end r h p =
-      let e : r ≡ n * 2 = omega (arith, p.within) in
-      record { passes = subst (Passes n i j g c) e p; changes = λ l. absurd (omega arith) }
+  pub passes-all : (r : ℕ) → n * 2 ≤ r → Passes n i j g c r → Passes n i j g c (n * 2)
+  passes-all r h p = let e : r ≡ n * 2 = omega (arith, p.within) in subst (Passes n i j g c) e p
 
 -- a pair of which nothing is said: its take changes nothing
 module _ (n i j : ℕ) (g : List ℕ) (F : Fair allen n g) (hi : i < n) (hj : j < n) (all : cell n g i j ≡ 8191) where
@@ -76,25 +73,27 @@ module _ (n i j : ℕ) (g : List ℕ) (F : Fair allen n g) (hi : i < n) (hj : j 
       (λ k hk. turn-still allen n i j k g q (past_first n g F i j k hi hj hk all) (past_second n g F k i j hk hi hj all)) n 0 (omega arith)
 
 -- from c on, which is the second cut at c / 2 where c is odd
-module _ (n i j : ℕ) (g : List ℕ) (c r set : ℕ) (f : Finds n i j g ((c / 2 + c % 2) * 2) r set) where
-  pub even_finds : (c % 2 ≡ 1 → ⊥) → Finds n i j g c r set
-  even_finds h = let e : (c / 2 + c % 2) * 2 ≡ c = omega (arith, h) in subst (λ (d : ℕ). Finds n i j g d r set) e f
+module _ (n i j : ℕ) (g : List ℕ) (c : ℕ) (r : Option Found) (f : Finds n i j g ((c / 2 + c % 2) * 2) r) where
+  pub even_finds : (c % 2 ≡ 1 → ⊥) → Finds n i j g c r
+  even_finds h = let e : (c / 2 + c % 2) * 2 ≡ c = omega (arith, h) in subst (λ (d : ℕ). Finds n i j g d r) e f
 
-  pub odd_finds : c % 2 ≡ 1 → c < n * 2 → Quiet n i j g (c / 2 * 2 + 1) → Finds n i j g c r set
+  pub odd_finds : c % 2 ≡ 1 → c < n * 2 → Quiet n i j g (c / 2 * 2 + 1) → Finds n i j g c r
   odd_finds h l s =
       let e : (c / 2 + c % 2) * 2 ≡ c + 1 = omega arith in
       let b : c / 2 * 2 + 1 ≡ c = omega arith in
-      let p : Passes n i j g (c + 1) r = subst (λ (d : ℕ). Passes n i j g d r) e f.passes in
-      let one : Passes n i j g c (c + 1) = passes-more n i j g c c l (passes_none n i j g c (omega arith)) (subst (Quiet n i j g) b s) in
-      record { passes = record { from = omega (arith, p.from); within = p.within; same = λ q. one.same q ∙ p.same q }; changes = f.changes }
+      go r (subst (λ (d : ℕ). Finds n i j g d r) e f) (passes-more n i j g c c l (passes_none n i j g c (omega arith)) (subst (Quiet n i j g) b s))
+    where
+      on : (k : ℕ) → Passes n i j g c (c + 1) → Passes n i j g (c + 1) k → Passes n i j g c k
+      on k one p = record { from = omega (arith, p.from); within = p.within; same = λ q. one.same q ∙ p.same q }
 
-pub odd_found : (n i j : ℕ) (g : List ℕ) (c set : ℕ) → c % 2 ≡ 1 → c ≤ n * 2 → Changes n i j g (c / 2 * 2 + 1) set → Finds n i j g c c set
+      go : (o : Option Found) → Finds n i j g (c + 1) o → Passes n i j g c (c + 1) → Finds n i j g c o
+      go None p one = on (n * 2) one p
+      go (Some w) p one = record { passes = on w.at one p.passes; before = p.before; changes = p.changes }
+
+pub odd_found : (n i j : ℕ) (g : List ℕ) (c set : ℕ) → c % 2 ≡ 1 → c < n * 2 → Changes n i j g (c / 2 * 2 + 1) set → First n i j g c c set
 odd_found n i j g c set h l k =
     let b : c / 2 * 2 + 1 ≡ c = omega arith in
-    record { passes = passes_none n i j g c l; changes = λ _. subst (λ (d : ℕ). Changes n i j g d set) b k }
-
-pub found_below : (n i j : ℕ) (g : List ℕ) (c r set : ℕ) → Finds n i j g c r set → (r ≡ n * 2 → ⊥) → r < n * 2
-found_below n i j g c r set f ne = omega (arith, f.passes.within, ne)
+    record { passes = passes_none n i j g c (omega arith); before = l; changes = subst (λ (d : ℕ). Changes n i j g d set) b k }
 
 -- cut c, made: its two events, and what it comes to
 module _ (n i j c : ℕ) (ni : c / 2 ≡ i → ⊥) (nj : c / 2 ≡ j → ⊥) where
@@ -116,30 +115,10 @@ module _ (n i j c : ℕ) (ni : c / 2 ≡ i → ⊥) (nj : c / 2 ≡ j → ⊥) w
     pub made_written : (set ≡ 0 → ⊥) → cut_at allen n i j c g q ≡ going (put_both converse n g (from_of i c) (to_of j c) set) (joins (pair_of (from_of i c) (to_of j c)) q)
     made_written nz = cut-to-set ∙ shrunk_written allen n (from_of i c) (to_of j c) _ set g q (k.less ni) nz
 
-module _ (n : ℕ) (o : Out) (r : Cut) (g ring flag : List ℕ) (s : Steps n o r g ring flag) where
-  pub is-dead : r ≡ Dead → o ≡ dead
-  is-dead e = sym s.same ∙ ap (λ (x : Cut). seen x g ring) e
+-- what a step showed that found an empty cell, and one that did not
+module _ (o : Out) (r : Result (Unit {0}) Emptied) (g q : List ℕ) (s : stepped r g q ≡ o) where
+  pub is-dead : (e : Emptied) → r ≡ Err e → o ≡ dead
+  is-dead e h = sym s ∙ ap (λ (x : Result (Unit {0}) Emptied). stepped x g q) h
 
-  pub has_room : r ≡ Dead → Sound n Dead ring flag
-  has_room e = subst (λ (x : Cut). Sound n x ring flag) e s.sound
-
-  module _ (l : Line) (e : r ≡ Going l) where
-    pub is-going : o ≡ going g (waiting_in ring l)
-    is-going = sym s.same ∙ ap (λ (x : Cut). seen x g ring) e
-
-    pub is-sound : Waits n ring flag l
-    is-sound = subst (λ (x : Cut). Sound n x ring flag) e s.sound
-
-pub going_fair : (n : ℕ) (r : Cut) (g : List ℕ) (l : Line) → r ≡ Going l → FairIf n r g → Fair allen n g
-going_fair n r g l e f = subst (λ (x : Cut). FairIf n x g) e f
-
--- a run at its limit, and one with nothing left to take
-pub stopped : (n limit t : ℕ) (g ring : List ℕ) (h l : ℕ) → 0 < l → t ≡ limit → rest allen n limit t g (queue_of ring h l) ≡ paused t g
-unfolding queue_of
-stopped n limit t g ring h (suc l) pos e = rw e (rest-paused allen n limit g _ _)
-stopped n limit t g ring h zero pos e = absurd (omega arith)
-
-pub finished : (n limit t : ℕ) (g ring : List ℕ) (h l : ℕ) → l ≤ 0 → rest allen n limit t g (queue_of ring h l) ≡ closed t g
-unfolding queue_of
-finished n limit t g ring h zero e = rest-closed allen n limit t g
-finished n limit t g ring h (suc l) e = absurd (omega arith)
+  pub is-going : (u : Unit {0}) → r ≡ Ok u → o ≡ going g q
+  is-going u h = sym s ∙ ap (λ (x : Result (Unit {0}) Emptied). stepped x g q) h

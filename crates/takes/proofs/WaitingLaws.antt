@@ -1,5 +1,6 @@
--- Joining and leaving the waiting list that ring and flags hold.
+-- Joining and leaving the waiting list that ring and marks hold.
 use mathlib.Core.Path.{◌≡◌, refl, ap, ap₂, sym, ◌∙◌}
+use mathlib.Core.Bool.{Bool, true, false, cond}
 use mathlib.Core.List.{List, [], ◌∷◌, ◌++◌}
 use Prim.Native.Nat.{ℕ, zero, suc, ◌+◌, ◌-◌, ◌%◌, ◌≤◌, ◌<◌}
 use native.Mathlib.Decide.{ℕ_discrete}
@@ -8,31 +9,14 @@ use native.Mathlib.Omega.{arith}
 use borrow.Author.Tests.{eq-eqb, ne_eqb}
 use lib.ListN.{length, get_or, set, length-set, replicate, length-replicate}
 use lib.Seq.{get_or-set_same, get_or-set_other}
-use Rattle.grid.proofs.CellLaws.{zeros}
-use Rattle.theory.specs.Line.{IsPair, occurs, joins}
+use Rattle.std.proofs.lemmas.List.{get_or-replicate}
+use Rattle.std.proofs.lemmas.List.Folds.{sum_by-replicate}
+use Rattle.std.proofs.lemmas.List.Sums.{sum_by-set, count_by-le-length}
+use Rattle.std.specs.List.{count_by}
+use Rattle.relation.specs.Sets.{one_if}
+use Rattle.theory.specs.Line.{occurs, joins}
 use Rattle.theory.proofs.LineLaws.{occurs-append, occurs-cons-same, occurs-cons-other, occurs_nil}
-use Rattle.takes.specs.Waiting.{queue_of, total, Waiting, Left, Idle}
-
-pub total-set : (l : List ℕ) (i v : ℕ) → i < length l → total (set l i v) + get_or l i 0 ≡ total l + v
-unfolding total
-total-set [] i v h = absurd (omega arith)
-total-set (x ∷ l) zero v h = omega arith
-total-set (x ∷ l) (suc i) v h = let e : total (set l i v) + get_or l i 0 ≡ total l + v = total-set l i v (omega arith) in omega arith
-
-pub total-room : (l : List ℕ) (i : ℕ) → ((k : ℕ) → get_or l k 0 ≤ 1) → i < length l → get_or l i 0 ≡ 0 → total l < length l
-unfolding total
-total-room [] i all h z = absurd (omega arith)
-total-room (x ∷ l) zero all h z = let e : total l ≤ length l = total_le l (λ k. all (suc k)) in omega arith
-  where
-    total_le : (l : List ℕ) → ((k : ℕ) → get_or l k 0 ≤ 1) → total l ≤ length l
-    total_le [] all = omega arith
-    total_le (x ∷ l) all = omega (arith, all 0, total_le l (λ k. all (suc k)))
-total-room (x ∷ l) (suc i) all h z = omega (arith, all 0, total-room l i (λ k. all (suc k)) (omega arith) z)
-
-pub length_queue : (ring : List ℕ) (h l : ℕ) → length (queue_of ring h l) ≡ l
-unfolding queue_of
-length_queue ring h zero = refl
-length_queue ring h (suc l) = ap suc (length_queue ring (suc h) l)
+use Rattle.takes.specs.Waiting.{queue_of, Waiting}
 
 -- the head counts round
 pub queue_round : (ring : List ℕ) (h h' l : ℕ) → h % 1024 ≡ h' % 1024 → queue_of ring h l ≡ queue_of ring h' l
@@ -72,158 +56,133 @@ occurs_snoc_same p q = omega (arith, occurs-append p q (p ∷ []), occurs-cons-s
 occurs_snoc_other : (c p : ℕ) (q : List ℕ) → (c ≡ p → ⊥) → occurs c (q ++ (p ∷ [])) ≡ occurs c q
 occurs_snoc_other c p q ne = omega (arith, occurs-append c q (p ∷ []), occurs-cons-other c p [] ne, occurs_nil c)
 
-module _ (n : ℕ) (small : n ≤ 32) (ring flag : List ℕ) (h l : ℕ) (w : Waiting n ring flag h l) where
-  -- a flag says whether a pair waits, so joining is decided by it
-  pub joins-none : (p : ℕ) → p < 1024 → (get_or flag p 0 ≡ 0 → ⊥) → joins p (queue_of ring h l) ≡ queue_of ring h l
-  unfolding joins
-  joins-none p hp f = simp (ne_eqb (occurs p (queue_of ring h l)) 0 (λ e. f (w.flags p hp ∙ e)))
+one_is : (b : Bool) → cond b 1 0 ≡ one_if b
+one_is true = refl
+one_is false = refl
 
-  module _ (p : ℕ) (ok : IsPair n p) (f : get_or flag p 0 ≡ 0) where
-    pub room : l < 1024
-    room = omega (arith, total-room flag p w.once (omega (arith, w.flag_len)) f, w.counted, w.flag_len)
+-- one more is marked, or one less; and where one is not, there is room
+marks-set : (waits : List Bool) (p : ℕ) (v : Bool) → p < length waits
+    → count_by (λ b. b) (set waits p v) + one_if (get_or waits p false) ≡ count_by (λ b. b) waits + one_if v
+marks-set waits p v h = omega (arith, sum_by-set (λ b. cond b 1 0) waits p v false h, one_is v, one_is (get_or waits p false))
+
+marks-room : (waits : List Bool) (p : ℕ) → p < length waits → get_or waits p false ≡ false → count_by (λ b. b) waits < length waits
+marks-room waits p h z =
+    omega (arith, marks-set waits p true h, ap one_if z, count_by-le-length (λ b. b) (set waits p true), length-set waits p true)
+
+module _ (ring : List ℕ) (waits : List Bool) (h l : ℕ) (places : length ring ≡ 1024) (room : length waits ≡ 1024) (w : Waiting ring waits h l) (p : ℕ) where
+  -- a mark says whether a pair waits, so joining is decided by it
+  pub joins-none : p < 1024 → get_or waits p false ≡ true → joins p (queue_of ring h l) ≡ queue_of ring h l
+  unfolding joins
+  joins-none hp f = simp (ne_eqb (occurs p (queue_of ring h l)) 0 (λ e. omega (arith, e, w.marked p hp, ap one_if f)))
+
+  module _ (hp : p < 1024) (f : get_or waits p false ≡ false) where
+    pub line_room : l < 1024
+    line_room = omega (arith, marks-room waits p (omega arith) f, w.counted)
 
     pub joined : queue_of (set ring ((h + l) % 1024) p) h (l + 1) ≡ joins p (queue_of ring h l)
     unfolding joins
-    joined = rw (add-one l, queue_push ring h l p w.ring_len room) (simp (eq-eqb (occurs p (queue_of ring h l)) 0 (sym (w.flags p (omega arith)) ∙ f)))
+    joined = rw (add-one l, queue_push ring h l p places line_room) (simp (eq-eqb (occurs p (queue_of ring h l)) 0 (sym (w.marked p hp) ∙ ap one_if f)))
 
     grown : queue_of (set ring ((h + l) % 1024) p) h (l + 1) ≡ queue_of ring h l ++ (p ∷ [])
-    grown = rw (add-one l) (queue_push ring h l p w.ring_len room)
+    grown = rw (add-one l) (queue_push ring h l p places line_room)
 
-    join-flags : (c : ℕ) → c < 1024 → get_or (set flag p 1) c 0 ≡ occurs c (queue_of (set ring ((h + l) % 1024) p) h (l + 1))
-    join-flags c hc = rw grown (go (ℕ_discrete c p))
+    join-marked : (c : ℕ) → c < 1024 → one_if (get_or (set waits p true) c false) ≡ occurs c (queue_of (set ring ((h + l) % 1024) p) h (l + 1))
+    join-marked c hc = rw grown (go (ℕ_discrete c p))
       where
-        go : Dec (c ≡ p) → get_or (set flag p 1) c 0 ≡ occurs c (queue_of ring h l ++ (p ∷ []))
-        go (yes e) = rw e (omega (arith, get_or-set_same flag p 1 0 (omega (arith, w.flag_len)), occurs_snoc_same p (queue_of ring h l), w.flags p (omega arith)))
-        go (no ne) = get_or-set_other flag p c 1 0 ne ∙ w.flags c hc ∙ sym (occurs_snoc_other c p (queue_of ring h l) ne)
+        go : Dec (c ≡ p) → one_if (get_or (set waits p true) c false) ≡ occurs c (queue_of ring h l ++ (p ∷ []))
+        go (yes e) = rw e (omega (arith, ap one_if (get_or-set_same waits p true false (omega arith)), occurs_snoc_same p (queue_of ring h l), w.marked p hp, ap one_if f))
+        go (no ne) = ap one_if (get_or-set_other waits p c true false ne) ∙ w.marked c hc ∙ sym (occurs_snoc_other c p (queue_of ring h l) ne)
 
-    join-once : (c : ℕ) → get_or (set flag p 1) c 0 ≤ 1
-    join-once c = go (ℕ_discrete c p)
+    join-small : (c : ℕ) → 0 < occurs c (queue_of (set ring ((h + l) % 1024) p) h (l + 1)) → c < 1024
+    join-small c o = go (ℕ_discrete c p) (rw grown at o)
       where
-        go : Dec (c ≡ p) → get_or (set flag p 1) c 0 ≤ 1
-        go (yes e) = rw e (omega (arith, get_or-set_same flag p 1 0 (omega (arith, w.flag_len))))
-        go (no ne) = rw (get_or-set_other flag p c 1 0 ne) (w.once c)
+        go : Dec (c ≡ p) → 0 < occurs c (queue_of ring h l ++ (p ∷ [])) → c < 1024
+        go (yes e) o = rw e hp
+        go (no ne) o = w.small c (rw (occurs_snoc_other c p (queue_of ring h l) ne) at o)
 
-    join-pairs : (c : ℕ) → 0 < occurs c (queue_of (set ring ((h + l) % 1024) p) h (l + 1)) → IsPair n c
-    join-pairs c o = go (ℕ_discrete c p) (rw grown at o)
-      where
-        go : Dec (c ≡ p) → 0 < occurs c (queue_of ring h l ++ (p ∷ [])) → IsPair n c
-        go (yes e) o = rw e ok
-        go (no ne) o = w.pairs c (rw (occurs_snoc_other c p (queue_of ring h l) ne) at o)
-
-    pub join-waiting : Waiting n (set ring ((h + l) % 1024) p) (set flag p 1) h (l + 1)
+    pub join-waiting : Waiting (set ring ((h + l) % 1024) p) (set waits p true) h (l + 1)
     join-waiting =
         record {
           head_small = w.head_small;
-          len-small = omega (arith, room);
-          ring_len = simp length-set w.ring_len;
-          flag_len = simp length-set w.flag_len;
-          flags = join-flags;
-          once = join-once;
-          counted = omega (arith, total-set flag p 1 (omega (arith, w.flag_len)), w.counted);
-          pairs = join-pairs;
+          len-small = omega (arith, line_room);
+          marked = join-marked;
+          counted = omega (arith, marks-set waits p true (omega arith), w.counted, ap one_if f);
+          small = join-small;
         }
 
 -- the first pair leaves
-module _ (n : ℕ) (small : n ≤ 32) (ring flag : List ℕ) (h l : ℕ) (w : Waiting n ring flag h (suc l)) where
+module _ (ring : List ℕ) (waits : List Bool) (h l : ℕ) (places : length ring ≡ 1024) (room : length waits ≡ 1024) (w : Waiting ring waits h (suc l)) where
   abbrev rest : List ℕ
   rest = queue_of ring ((h + 1) % 1024) l
 
-  pub left : queue_of ring h (suc l) ≡ get_or ring h 0 ∷ rest
+  abbrev first : ℕ
+  first = get_or ring h 0
+
+  left : queue_of ring h (suc l) ≡ first ∷ rest
   left = queue_pop ring h l w.head_small
 
-  pub first-pair : IsPair n (get_or ring h 0)
-  first-pair = w.pairs (get_or ring h 0) (rw left (omega (arith, occurs-cons-same (get_or ring h 0) rest)))
+  first-small : first < 1024
+  first-small = w.small first (rw left (omega (arith, occurs-cons-same first rest)))
 
-  first-once : occurs (get_or ring h 0) rest ≡ 0
-  first-once =
-      omega
-      (arith, w.once (get_or ring h 0), w.flags (get_or ring h 0) (omega (arith, first-pair)), ap (occurs (get_or ring h 0)) left, occurs-cons-same (get_or ring h 0) rest)
+  first_in : one_if (get_or waits first false) ≡ 1 + occurs first rest
+  first_in = w.marked first first-small ∙ ap (occurs first) left ∙ occurs-cons-same first rest
 
-  first_flag : get_or flag (get_or ring h 0) 0 ≡ 1
-  first_flag = omega (arith, first-once, w.flags (get_or ring h 0) (omega (arith, first-pair)), ap (occurs (get_or ring h 0)) left, occurs-cons-same (get_or ring h 0) rest)
-
-  pop_flags : (c : ℕ) → c < 1024 → get_or (set flag (get_or ring h 0) 0) c 0 ≡ occurs c rest
-  pop_flags c hc = go (ℕ_discrete c (get_or ring h 0))
+  first-once : occurs first rest ≡ 0
+  first-once = go (get_or waits first false) first_in
     where
-      go : Dec (c ≡ get_or ring h 0) → get_or (set flag (get_or ring h 0) 0) c 0 ≡ occurs c rest
-      go (yes e) = rw e (get_or-set_same flag (get_or ring h 0) 0 0 (omega (arith, w.flag_len, first-pair)) ∙ sym first-once)
-      go (no ne) = get_or-set_other flag (get_or ring h 0) c 0 0 ne ∙ w.flags c hc ∙ ap (occurs c) left ∙ occurs-cons-other c (get_or ring h 0) rest ne
+      go : (b : Bool) → one_if b ≡ 1 + occurs first rest → occurs first rest ≡ 0
+      go true e = omega arith
+      go false e = omega arith
 
-  pop_once : (c : ℕ) → get_or (set flag (get_or ring h 0) 0) c 0 ≤ 1
-  pop_once c = go (ℕ_discrete c (get_or ring h 0))
+  pop-marked : (c : ℕ) → c < 1024 → one_if (get_or (set waits first false) c false) ≡ occurs c rest
+  pop-marked c hc = go (ℕ_discrete c first)
     where
-      go : Dec (c ≡ get_or ring h 0) → get_or (set flag (get_or ring h 0) 0) c 0 ≤ 1
-      go (yes e) = rw e (omega (arith, get_or-set_same flag (get_or ring h 0) 0 0 (omega (arith, w.flag_len, first-pair))))
-      go (no ne) = rw (get_or-set_other flag (get_or ring h 0) c 0 0 ne) (w.once c)
+      go : Dec (c ≡ first) → one_if (get_or (set waits first false) c false) ≡ occurs c rest
+      go (yes e) = rw e (ap one_if (get_or-set_same waits first false false (omega (arith, first-small))) ∙ sym first-once)
+      go (no ne) = ap one_if (get_or-set_other waits first c false false ne) ∙ w.marked c hc ∙ ap (occurs c) left ∙ occurs-cons-other c first rest ne
 
-  pop_pairs : (c : ℕ) → 0 < occurs c rest → IsPair n c
-  pop_pairs c o = w.pairs c (rw left (go (ℕ_discrete c (get_or ring h 0))))
+  pop-small : (c : ℕ) → 0 < occurs c rest → c < 1024
+  pop-small c o = go (ℕ_discrete c first)
     where
-      go : Dec (c ≡ get_or ring h 0) → 0 < occurs c (get_or ring h 0 ∷ rest)
-      go (yes e) = rw e (omega (arith, occurs-cons-same (get_or ring h 0) rest))
-      go (no ne) = rw (occurs-cons-other c (get_or ring h 0) rest ne) o
+      go : Dec (c ≡ first) → c < 1024
+      go (yes e) = rw e first-small
+      go (no ne) = w.small c (rw (left, occurs-cons-other c first rest ne) o)
 
-  pub pop_waiting : Waiting n ring (set flag (get_or ring h 0) 0) ((h + 1) % 1024) l
-  pop_waiting =
+  pop-waiting : Waiting ring (set waits first false) ((h + 1) % 1024) l
+  pop-waiting =
       record {
         head_small = omega arith;
         len-small = omega (arith, w.len-small);
-        ring_len = w.ring_len;
-        flag_len = simp length-set w.flag_len;
-        flags = pop_flags;
-        once = pop_once;
-        counted = omega (arith, total-set flag (get_or ring h 0) 0 (omega (arith, w.flag_len, first-pair)), w.counted, first_flag);
-        pairs = pop_pairs;
+        marked = pop-marked;
+        counted = omega (arith, marks-set waits first false (omega (arith, first-small)), w.counted, first_in, first-once);
+        small = pop-small;
       }
 
-pub leaves : (n : ℕ) → n ≤ 32 → (ring flag : List ℕ) (h l : ℕ) → 0 < l → Waiting n ring flag h l
-    → Left n ring (set flag (get_or ring h 0) 0) h l (get_or ring h 0) ((h + 1) % 1024) (l - 1)
-leaves n small ring flag h (suc l) pos w =
+-- the first pair of a list that is not empty, and the list without it
+pub record Left (ring : List ℕ) (waits : List Bool) (h l : ℕ) : Type 0 where
+  pub small : get_or ring h 0 < 1024
+  pub waiting : Waiting ring (set waits (get_or ring h 0) false) ((h + 1) % 1024) (l - 1)
+  pub was : queue_of ring h l ≡ get_or ring h 0 ∷ queue_of ring ((h + 1) % 1024) (l - 1)
+
+pub leaves : (ring : List ℕ) (waits : List Bool) (h l : ℕ) → length ring ≡ 1024 → length waits ≡ 1024 → Waiting ring waits h l → (l ≡ 0 → ⊥) → Left ring waits h l
+leaves ring waits h (suc l) places room w ne =
     let e : suc l - 1 ≡ l = omega arith in
-    rw e (record { pair = first-pair n small ring flag h l w; waiting = pop_waiting n small ring flag h l w; was = left n small ring flag h l w })
-leaves n small ring flag h zero pos w = absurd (omega arith)
+    record { small = first-small ring waits h l places room w; waiting = rw e (pop-waiting ring waits h l places room w); was = rw e (left ring waits h l places room w) }
+leaves ring waits h zero places room w ne = absurd (ne refl)
 
--- an empty line
-total-zeros : (k : ℕ) → total (replicate k 0) ≡ 0
-unfolding total
-total-zeros zero = refl
-total-zeros (suc k) = omega (arith, total-zeros k)
-
-pub cleared : (n : ℕ) (ring flag : List ℕ) → length ring ≡ 1024 → flag ≡ replicate 1024 0 → Idle n ring flag
+-- nothing waits
+pub empty_waiting : (ring : List ℕ) → Waiting ring (replicate 1024 false) 0 0
 unfolding queue_of
-cleared n ring flag r f =
-    rw f (
+empty_waiting ring =
     record {
       head_small = omega arith;
       len-small = omega arith;
-      ring_len = r;
-      flag_len = length-replicate {A = ℕ} 1024 0;
-      flags = λ p h. zeros 1024 p ∙ sym (occurs_nil p);
-      once = λ p. omega (arith, zeros 1024 p);
-      counted = total-zeros 1024;
-      pairs = λ p h. absurd (omega (arith, h, occurs_nil p));
+      marked = λ p h. ap one_if (get_or-replicate 1024 p false false h) ∙ sym (occurs_nil p);
+      counted = sum_by-replicate (λ b. cond b 1 0) 1024 false;
+      small = λ p h. absurd (omega (arith, h, occurs_nil p));
     }
-    )
 
-pub empty-line : (n : ℕ) → Idle n (replicate 1024 0) (replicate 1024 0)
-empty-line n = cleared n (replicate 1024 0) (replicate 1024 0) (length-replicate {A = ℕ} 1024 0) refl
-
--- a list of which all have left
-pub all_left : (n : ℕ) (ring flag : List ℕ) (h l : ℕ) → l ≤ 0 → Waiting n ring flag h l → Idle n ring flag
+pub empty_queue : (ring : List ℕ) (h l : ℕ) → l ≡ 0 → queue_of ring h l ≡ []
 unfolding queue_of
-all_left n ring flag h zero e w =
-    record {
-      head_small = omega arith;
-      len-small = w.len-small;
-      ring_len = w.ring_len;
-      flag_len = w.flag_len;
-      flags = w.flags;
-      once = w.once;
-      counted = w.counted;
-      pairs = w.pairs;
-    }
-all_left n ring flag h (suc l) e w = absurd (omega arith)
-
-pub empty_queue : (ring : List ℕ) (h : ℕ) → queue_of ring h 0 ≡ []
-unfolding queue_of
-empty_queue ring h = refl
+empty_queue ring h zero e = refl
+empty_queue ring h (suc l) e = absurd (omega arith)

@@ -9,7 +9,7 @@ use native.Mathlib.Decide.{ℕ_discrete}
 use borrow.Author.Tests.{eq-eqb, ne_eqb}
 use lib.ListN.{length, length-append}
 use Rattle.relation.specs.Sets.{one_if}
-use Rattle.theory.specs.Line.{IsPair, pair_of, occurs, joins}
+use Rattle.theory.specs.Line.{IsPair, Pairs, pair_of, occurs, joins}
 
 pub occurs-append : (p : ℕ) (q r : List ℕ) → occurs p (q ++ r) ≡ occurs p q + occurs p r
 unfolding occurs
@@ -45,6 +45,14 @@ module _ (p : ℕ) (q : List ℕ) where
   joins_only c ne =
       joins_cases (ℕ_discrete (occurs p q) 0) (λ r. occurs c r ≡ occurs c q)
       (λ e. omega (arith, occurs-append c q (p ∷ []), occurs-cons-other c p [] ne, occurs_nil c)) (λ n. refl)
+
+-- pairs wait, and one more that joins
+pub pairs-joins : (n p : ℕ) (q : List ℕ) → IsPair n p → Pairs n q → Pairs n (joins p q)
+pairs-joins n p q ok Q c h = go (ℕ_discrete c p)
+  where
+    go : Dec (c ≡ p) → IsPair n c
+    go (yes e) = rw e ok
+    go (no ne) = Q c (rw (joins_only p q c ne) at h)
 
 -- a pair's number and its two events
 pub pair_comm : (a b : ℕ) → pair_of a b ≡ pair_of b a

@@ -8,13 +8,13 @@ use native.Mathlib.Decide.{ℕ_discrete}
 use Rattle.grid.specs.Cells.{cell, put_both}
 use Rattle.theory.specs.Calculus.{Calculus, Sub}
 use Rattle.theory.specs.Closing.{Closed, Closing}
-use Rattle.theory.specs.Line.{IsPair, joins, pair_of, occurs}
+use Rattle.theory.specs.Line.{IsPair, Pairs, joins, pair_of, occurs}
 use Rattle.theory.specs.Quick.{cut_to, Out, dead, going, and_then, cut, cut_back, turn, turns, take, run, go_on, Ended, contradiction, closed, paused}
 use Rattle.theory.specs.Sweeps.{Distinct}
 use Rattle.theory.proofs.ClosingLaws.{IsCut, cut-within, mirror_cut, reached_closed, sub_trans, sub_meet_r}
 use Rattle.theory.proofs.KeepLaws.{Good, Came, same, emptied, shrank, came, is_cut, good_shrank, good_dead}
 use Rattle.theory.proofs.Lawful.{Lawful, EqLawful}
-use Rattle.theory.proofs.LineLaws.{joins-keeps, joins_here, joins_only, occurs-cons-same, occurs-cons-other, occurs_nil, pair_comm, pair_same, pair_swap, pair-second, pair-events, pair_ok}
+use Rattle.theory.proofs.LineLaws.{joins-keeps, joins_here, pairs-joins, occurs-cons-same, occurs-cons-other, occurs_nil, pair_comm, pair_same, pair_swap, pair-second, pair-events, pair_ok}
 use Rattle.theory.proofs.QuickLaws.{turn_skip_i, turn_skip_j, turn_is}
 
 -- (a, b) lies inside what (a, c) with (c, b) allows
@@ -48,9 +48,6 @@ Owed i j k a b c = ((pair_of a c ≡ pair_of i j) × (k ≤ b)) ⊎ ((pair_of c 
 
 abbrev pub Mid : Calculus → ℕ → ℕ → ℕ → ℕ → List ℕ → List ℕ → Type 0
 Mid A n i j k g q = (a b c : ℕ) → Distinct n a b c → Served A n g q a b c ⊎ Owed i j k a b c
-
-abbrev pub Pairs : ℕ → List ℕ → Type 0
-Pairs n q = (p : ℕ) → 0 < occurs p q → IsPair n p
 
 -- what a cut of (x, y) over m keeps, and what it brings
 pub record Stepped (A : Calculus) (n : ℕ) (g₀ g q g' q' : List ℕ) (x m y : ℕ) : Type 0 where
@@ -125,11 +122,7 @@ module _ (A : Calculus) (L : Lawful A) (n : ℕ) (few : n ≤ 32) (g₀ g q : Li
       (sub_meet_r A L _ _)
 
   pairs_shrank : Pairs n q'
-  pairs_shrank p h = go (ℕ_discrete p (pair_of x y))
-    where
-      go : Dec (p ≡ pair_of x y) → IsPair n p
-      go (yes e) = rw e (pair_ok n x y few d.ha d.hb d.ab)
-      go (no ne) = Q p (rw (joins_only (pair_of x y) q p ne) at h)
+  pairs_shrank = pairs-joins n (pair_of x y) q (pair_ok n x y few d.ha d.hb d.ab) Q
 
   back-same : v ≡ cell n g x y → Via A n g y x m
   back-same e = cc (mirror_is, G.reached.mirrored x y d.ha d.hb)

@@ -8,9 +8,9 @@ use native.Mathlib.Omega.{arith}
 use native.Mathlib.Decide.{ℕ_discrete, dec_lt}
 use lib.ListN.{length, length-append}
 use Rattle.theory.specs.Calculus.{Calculus}
-use Rattle.theory.specs.Line.{IsPair, pair_of, joins, occurs, row_to, rows_to, all_pairs}
+use Rattle.theory.specs.Line.{IsPair, Pairs, pair_of, joins, occurs, row_to, rows_to, all_pairs}
 use Rattle.theory.proofs.LineLaws.{occurs-append, occurs-cons-same, occurs-cons-other, occurs_nil, pair_ok}
-use Rattle.theory.proofs.SettledLaws.{Settled, Pairs, Waits}
+use Rattle.theory.proofs.SettledLaws.{Settled, Waits}
 
 snoc_cases : (x y : ℕ) (q : List ℕ) → 0 < occurs x (q ++ (y ∷ [])) → (0 < occurs x q) ⊎ (x ≡ y)
 snoc_cases x y q h = go (ℕ_discrete x y)

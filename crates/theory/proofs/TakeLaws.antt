@@ -9,7 +9,7 @@ use lib.ListN.{length}
 use Rattle.grid.specs.Cells.{cell, put_both}
 use Rattle.grid.proofs.CellLaws.{put_both-length}
 use Rattle.theory.specs.Calculus.{Calculus, Sub}
-use Rattle.theory.specs.Line.{IsPair, joins, pair_of, occurs, all_pairs}
+use Rattle.theory.specs.Line.{IsPair, Pairs, joins, pair_of, occurs, all_pairs}
 use Rattle.theory.specs.Quick.{cut_to, Out, dead, going, and_then, cut, turn, turns, take, run, go_on, Ended, contradiction, closed, paused}
 use Rattle.theory.specs.Sweeps.{Distinct, sum}
 use Rattle.theory.proofs.ClosingLaws.{IsCut, cut-within}
@@ -17,7 +17,7 @@ use Rattle.theory.proofs.KeepLaws.{Good, Came, same, emptied, shrank, came, is_c
 use Rattle.theory.proofs.Lawful.{Lawful}
 use Rattle.theory.proofs.LineLaws.{occurs-cons-same, occurs-cons-other, occurs_nil, pair_same, pair_swap, length-joins, pair_number, pair-low}
 use Rattle.theory.proofs.QuickLaws.{turn_skip_i, turn_skip_j, turn_is}
-use Rattle.theory.proofs.SettledLaws.{Pairs, pairs-rest, Resting, Taken, take_ok, After, cut_ok}
+use Rattle.theory.proofs.SettledLaws.{pairs-rest, Resting, Taken, take_ok, After, cut_ok}
 use Rattle.theory.proofs.StartLaws.{length-all, pairs-all, waits_all}
 
 -- how many members a set has

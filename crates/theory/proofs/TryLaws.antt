@@ -11,14 +11,14 @@ use Rattle.grid.specs.Cells.{cell, put_both}
 use Rattle.theory.specs.Calculus.{Calculus, Sub}
 use Rattle.theory.specs.Closing.{Closed, Within}
 use Rattle.theory.specs.Fair.{Fair}
-use Rattle.theory.specs.Line.{IsPair, pair_of, occurs, all_pairs}
+use Rattle.theory.specs.Line.{IsPair, Pairs, pair_of, occurs, all_pairs}
 use Rattle.theory.specs.Quick.{paused, run}
 use Rattle.theory.proofs.Lawful.{Lawful, EqLawful}
 use Rattle.theory.proofs.ClosingLaws.{IsPut, put-within, sub_trans}
 use Rattle.theory.proofs.KeepLaws.{put_both_lem}
 use Rattle.theory.proofs.FairLaws.{fair_good, put_fair}
 use Rattle.theory.proofs.LineLaws.{occurs-cons-same, occurs-cons-other, occurs_nil, pair_same, pair_swap, pair_ok}
-use Rattle.theory.proofs.SettledLaws.{Settled, Served, Pairs, Resting, Right, run_ok}
+use Rattle.theory.proofs.SettledLaws.{Settled, Served, Resting, Right, run_ok}
 use Rattle.theory.proofs.StartLaws.{waits_all}
 use Rattle.theory.proofs.TakeLaws.{Sized, Bounded, store_most, run_bound}
 

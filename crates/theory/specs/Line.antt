@@ -15,6 +15,10 @@ unfoldable pub occurs : ℕ → List ℕ → ℕ
 occurs p [] = 0
 occurs p (x ∷ q) = one_if (eqb p x) + occurs p q
 
+-- what waits are pairs of two of n events
+abbrev pub Pairs : ℕ → List ℕ → Type 0
+Pairs n q = (p : ℕ) → 0 < occurs p q → IsPair n p
+
 -- p joins the end, unless it is waiting already
 unfoldable pub joins : ℕ → List ℕ → List ℕ
 joins p q = cond (eqb (occurs p q) 0) (q ++ (p ∷ [])) q

@@ -1,0 +1,75 @@
+// The waiting list: a ring of pairs, with a mark for each pair that waits.
+ghost use Rattle.std.specs.Prelude.{◌≡◌, [], ◌∷◌, ◌<◌, MatchOption};
+ghost use Rattle.theory.specs.Line.{joins};
+
+use std::marker::Model;
+
+// The pairs that wait for a take, in their order. The ring holds them from head on, and waits marks each of them. A pair waits once
+// at most, so that the ring has a place for each.
+#[derive(Drop)]
+pub struct WaitingList {
+    ring: [u16; 1024],
+    waits: [bool; 1024],
+    head: usize,
+    len: usize,
+}
+
+impl Model for WaitingList {
+    ghost use Rattle.std.specs.Prelude.{List, ℕ};
+    ghost use Rattle.takes.specs.Waiting.{queue_of, Waiting};
+
+    ghost Value = { List ℕ };
+
+    ghost view = { λ a. queue_of a.ring a.head a.len };
+
+    ghost invariant = { λ a. Waiting a.ring a.waits a.head a.len };
+}
+
+impl WaitingList {
+    pub fn new() -> Self
+        ensures { result ≡ [] }
+    {
+        WaitingList {
+            ring: [0; 1024],
+            waits: [false; 1024],
+            head: 0,
+            len: 0,
+        }
+    }
+
+    // The pair p joins the end unless it waits already.
+    pub fn join(&mut self, p: usize)
+        requires { p < 1024 }
+        ensures { self.new ≡ joins p self.old }
+    {
+        if self.waits[p] {
+            return;
+        }
+        self.ring[(self.head + self.len) % 1024] = p as u16;
+        self.waits[p] = true;
+        self.len += 1;
+    }
+
+    // The first pair leaves, if one waits.
+    pub fn leave(&mut self) -> Option<usize>
+        ensures { MatchOption result ((self.old ≡ []) × (self.new ≡ [])) (λ p. self.old ≡ p ∷ self.new) }
+    {
+        if self.len == 0 {
+            return None;
+        }
+        let p = self.ring[self.head] as usize;
+        self.waits[p] = false;
+        self.head = (self.head + 1) % 1024;
+        self.len -= 1;
+        Some(p)
+    }
+
+    // All pairs leave.
+    pub fn clear(&mut self)
+        ensures { self.new ≡ [] }
+    {
+        self.waits = [false; 1024];
+        self.head = 0;
+        self.len = 0;
+    }
+}
