@@ -1,9 +1,10 @@
 -- From the code's answer to the step that it shows.
 use mathlib.Core.Path.{◌≡◌, refl, ◌∙◌, sym, ap, subst}
-use mathlib.Core.List.{List}
+use mathlib.Core.Bool.{Bool, true, false}
+use mathlib.Core.List.{List, ◌∷◌}
 use Prim.Native.Nat.{ℕ, zero, suc, ◌+◌, ◌*◌, ◌/◌, ◌%◌, ◌≤◌, ◌<◌}
 use native.Mathlib.Omega.{arith}
-use Rattle.std.specs.Prelude.{Option, None, Some, Result, Ok, Err}
+use Rattle.std.specs.Prelude.{Option, None, Some, Result, Ok, Err, is_err, IfOk}
 use native.Mathlib.Decide.{ℕ_discrete}
 use borrow.Author.Tests.{eq-eqb, ne_eqb}
 use Rattle.relation.specs.Composition.{converse}
@@ -11,10 +12,10 @@ use Rattle.grid.specs.Cells.{cell, put_both}
 use Rattle.theory.specs.Fair.{Fair}
 use Rattle.theory.specs.Allen.{allen}
 use Rattle.theory.specs.Line.{joins, pair_of}
-use Rattle.theory.specs.Quick.{Out, dead, going, cut_to, shrunk, cut, turns, paused, closed}
+use Rattle.theory.specs.Quick.{Out, dead, going, cut_to, shrunk, cut, turns, paused}
 use Rattle.theory.specs.Cuts.{from_of, to_of, cut_at}
 use Rattle.theory.proofs.QuickLaws.{shrunk-dead, shrunk_written}
-use Rattle.theory.proofs.StepLaws.{turn-still, left-all, left-still, rest, rest-paused, rest-closed}
+use Rattle.theory.proofs.StepLaws.{turn-still, left-all, left-still, rest, rest-paused}
 use Rattle.theory.proofs.CutsLaws.{first-from, first_via, first_to, second_from, second_via, second-to, cut_skip_i, cut_made, cut-at-still, cuts-going, turned_cut, turned_still, turned_less}
 use Rattle.theory.proofs.AllenLaws.{lawful, past_first, past_second}
 use Rattle.theory.proofs.FairLaws.{fair_good}
@@ -116,9 +117,28 @@ module _ (n i j c : ℕ) (ni : c / 2 ≡ i → ⊥) (nj : c / 2 ≡ j → ⊥) w
     made_written nz = cut-to-set ∙ shrunk_written allen n (from_of i c) (to_of j c) _ set g q (k.less ni) nz
 
 -- what a step showed that found an empty cell, and one that did not
-module _ (o : Out) (r : Result (Unit {0}) Emptied) (g q : List ℕ) (s : stepped r g q ≡ o) where
-  pub is-dead : (e : Emptied) → r ≡ Err e → o ≡ dead
-  is-dead e h = sym s ∙ ap (λ (x : Result (Unit {0}) Emptied). stepped x g q) h
+module _ (r : Result (Unit {0}) Emptied) where
+  pub is-dead : (o : Out) (g q : List ℕ) → stepped r g q ≡ o → is_err r ≡ true → o ≡ dead
+  is-dead o g q s e = go r s e
+    where
+      go : (x : Result (Unit {0}) Emptied) → stepped x g q ≡ o → is_err x ≡ true → o ≡ dead
+      go (Ok u) s e = cc
+      go (Err u) s e = sym s
 
-  pub is-going : (u : Unit {0}) → r ≡ Ok u → o ≡ going g q
-  is-going u h = sym s ∙ ap (λ (x : Result (Unit {0}) Emptied). stepped x g q) h
+  pub is-going : (o : Out) (g q : List ℕ) → stepped r g q ≡ o → is_err r ≡ false → o ≡ going g q
+  is-going o g q s e = go r s e
+    where
+      go : (x : Result (Unit {0}) Emptied) → stepped x g q ≡ o → is_err x ≡ false → o ≡ going g q
+      go (Ok u) s e = sym s
+      go (Err u) s e = cc
+
+  pub going-has : (P : Type 0) → IfOk r (λ _. P) → is_err r ≡ false → P
+  going-has P h e = go r h e
+    where
+      go : (x : Result (Unit {0}) Emptied) → IfOk x (λ _. P) → is_err x ≡ false → P
+      go (Ok u) h e = h
+      go (Err u) h e = cc
+
+-- a run at its limit
+pub stopped : (n limit t : ℕ) (g list q : List ℕ) (p : ℕ) → list ≡ p ∷ q → t ≡ limit → rest allen n limit t g list ≡ paused t g
+stopped n limit t g list q p e f = rw (e, f) (rest-paused allen n limit g p q)
