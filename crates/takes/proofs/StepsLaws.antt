@@ -20,7 +20,7 @@ use Rattle.theory.proofs.CutsLaws.{first-from, first_via, first_to, second_from,
 use Rattle.theory.proofs.AllenLaws.{lawful, past_first, past_second}
 use Rattle.theory.proofs.FairLaws.{fair_good}
 use Rattle.takes.specs.Steps.{stepped, Quiet, Changes, Passes, First, Finds}
-use Rattle.takes.specs.declared.Emptied.{Emptied}
+use Rattle.grid.specs.declared.Emptied.{Emptied}
 use Rattle.takes.specs.declared.Found.{Found}
 
 -- the two cuts at k, from what is left in its row

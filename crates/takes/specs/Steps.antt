@@ -1,11 +1,10 @@
 -- How the code's answer, grid and waiting list show a step of quick closing. Inner functions cite this; the public statements do not.
 use Rattle.std.specs.Prelude.{◌≡◌, List, ℕ, ◌*◌, ◌/◌, ◌≤◌, ◌<◌, Option, None, Some, Result, Ok, Err}
 use Rattle.grid.specs.Cells.{cell}
-use Rattle.grid.specs.Steps.{RowsAt}
+use Rattle.grid.specs.declared.Emptied.{Emptied}
 use Rattle.theory.specs.Allen.{allen}
 use Rattle.theory.specs.Quick.{Out, dead, going, cut_to, Ended, contradiction, closed, paused}
 use Rattle.theory.specs.Cuts.{from_of, via_of, to_of, cut_at, cuts_from}
-use Rattle.takes.specs.declared.Emptied.{Emptied}
 use Rattle.takes.specs.declared.Found.{Found}
 use Rattle.takes.specs.declared.Take.{Take}
 use Rattle.takes.specs.declared.End.{End}
@@ -20,8 +19,8 @@ stepped (Err e) g q = dead
 pub record Sees (n : ℕ) (g : List ℕ) (t : Take) : Type 0 where
   pub from : t.i < n
   pub to : t.j < n
-  pub there : RowsAt n t.i t.j g t.there
-  pub back : RowsAt n t.j t.i g t.back
+  pub there : t.there ≡ cell n g t.i t.j
+  pub back : t.back ≡ cell n g t.j t.i
 
 -- cut c in the take of (i, j) changes nothing, whatever waits
 abbrev pub Quiet : ℕ → ℕ → ℕ → List ℕ → ℕ → Type 0

@@ -11,14 +11,11 @@ ghost use Rattle.theory.specs.Quick.{turns, run};
 ghost use Rattle.theory.specs.Cuts.{from_of, to_of, cut_at};
 ghost use Rattle.takes.specs.Steps.{Sees, Changes, Finds, stepped, ended};
 
+use grid::Emptied;
 use relation::Rows;
 pub use waiting::WaitingList;
 
 mod waiting;
-
-// A cell became empty.
-#[derive(Clone, Copy)]
-pub struct Emptied;
 
 // How a run of takes ended, with the takes made.
 #[derive(Clone, Copy)]
@@ -54,7 +51,7 @@ pub struct Found {
 }
 
 // The take of (i, j), with the rows of that cell and of its mirror.
-#[derive(Clone, Copy)]
+#[derive(Drop)]
 pub struct Take {
     pub i: usize,
     pub j: usize,
@@ -72,14 +69,14 @@ impl Take {
         for k in from..n {
             let ki = grid::get(g, n, k, self.i);
             let kj = grid::get(g, n, k, self.j);
-            let first = ki & relation::compose_by(kj, self.back);
+            let first = ki & self.back.compose(kj);
             if first != ki {
                 return Some(Found {
                     at: k * 2,
                     set: relation::converse_of(first),
                 });
             }
-            let second = kj & relation::compose_by(ki, self.there);
+            let second = kj & self.there.compose(ki);
             if second != kj {
                 return Some(Found {
                     at: k * 2 + 1,
@@ -99,7 +96,7 @@ impl Take {
         if c % 2 == 1 {
             let ki = grid::get(g, n, k, self.i);
             let kj = grid::get(g, n, k, self.j);
-            let set = kj & relation::compose_by(ki, self.there);
+            let set = kj & self.there.compose(ki);
             if set != kj {
                 return Some(Found { at: c, set });
             }
@@ -165,8 +162,8 @@ fn take_pair(
     let take = Take {
         i,
         j,
-        there: relation::rows_of(set),
-        back: relation::rows_of(grid::get(g, n, j, i)),
+        there: Rows::of(set),
+        back: Rows::of(grid::get(g, n, j, i)),
     };
     let mut c = 0;
     while let Some(found) = take.next_cut(g, n, c) {

@@ -24,8 +24,8 @@ loop-found-init c = (
   record {
     from = c.requires.0;
     to = c.requires.1;
-    there = record { right = c.rows_of.ensures.1; set = c.rows_of.ensures.0 ∙ c.get-set.ensures };
-    back = record { right = c.rows_of-2.ensures.1; set = c.rows_of-2.ensures.0 ∙ c.get.ensures };
+    there = c.of.ensures ∙ c.get-set.ensures;
+    back = c.of-2.ensures ∙ c.get.ensures;
   },
 )
 
@@ -48,8 +48,8 @@ loop-found-preserved c =
       record {
         from = c.requires.0;
         to = c.requires.1;
-        there = record { right = c.loop-found.invariant.5.there.right; set = c.loop-found.invariant.5.there.set ∙ sym K.pair };
-        back = record { right = c.loop-found.invariant.5.back.right; set = c.loop-found.invariant.5.back.set ∙ sym K.mirror };
+        there = c.loop-found.invariant.5.there ∙ sym K.pair;
+        back = c.loop-found.invariant.5.back ∙ sym K.mirror;
       },
     )
 
