@@ -1,5 +1,5 @@
 -- Takes, however many, say what closing leaves: from all pairs, and from the one pair that was cut in a closed grid.
-use mathlib.Core.Path.{◌≡◌, refl, sym, ap, subst, ◌∙◌}
+use mathlib.Core.Path.{◌≡◌, refl, sym, ap, ◌∙◌}
 use mathlib.Core.List.{List, [], ◌∷◌}
 use Prim.Native.Nat.{ℕ, ◌*◌, ◌<◌}
 use native.Mathlib.Omega.{arith}
@@ -10,16 +10,16 @@ use Rattle.relation.proofs.ExchangeLaws.{converse_lt, converse_twice}
 use Rattle.grid.specs.Cells.{cell, put_both}
 use Rattle.theory.specs.Allen.{allen}
 use Rattle.theory.specs.Fair.{Fair}
-use Rattle.theory.specs.Line.{pair_of, all_pairs, joins, occurs}
-use Rattle.theory.specs.Quick.{Out, going, Ended, contradiction, go_on, run}
+use Rattle.theory.specs.Line.{Pairs, pair_of, all_pairs, joins, occurs}
+use Rattle.theory.specs.Quick.{Ended, run}
 use Rattle.theory.specs.Search.{closes_to}
 use Rattle.theory.specs.Tried.{enough, tried_by}
 use Rattle.theory.proofs.AllenLaws.{lawful, of_sets, eq_lawful, sized, top_lt}
 use Rattle.theory.proofs.ClosesLaws.{closes_all, closes_one}
 use Rattle.theory.proofs.FairLaws.{put_fair}
 use Rattle.theory.proofs.GivenLaws.{fine}
+use Rattle.theory.proofs.LineLaws.{occurs_nil, pair_ok, pairs-joins}
 use Rattle.theory.proofs.MeetLaws.{sub_top}
-use Rattle.theory.proofs.QuickLaws.{going-grid}
 use Rattle.quick.specs.Steps.{ClosedGrid, Cuttable}
 
 pub closes_by_takes : (n : ℕ) (g : List ℕ) → Fair allen n g → length g ≡ n * n → closes_to allen n g ≡ tried_by (run allen n enough 0 g (all_pairs n))
@@ -40,17 +40,18 @@ module _ (n i j v : ℕ) (g : List ℕ) (C : Cuttable n i j v g) where
   small = of_sets.small v (cell n g i j) C.inside (omega (arith, C.grid.accepted.small i j C.from C.to))
 
   -- the cut, as it was written
-  pub written_fair : (h q q' : List ℕ) → going h q ≡ going cut q' → Fair allen n h
-  written_fair h q q' e =
-      subst (Fair allen n) (sym (going-grid _ _ _ _ e))
-      (put_fair allen lawful n g (closed_fair n g C.grid) i j C.from C.to C.apart v (sub_top v (omega (arith, small)))
-      (sub_top (converse v) (omega (arith, converse_lt v))) (converse_twice v small) C.some)
+  pub cut_fair : Fair allen n cut
+  cut_fair =
+      put_fair allen lawful n g (closed_fair n g C.grid) i j C.from C.to C.apart v (sub_top v (omega (arith, small)))
+      (sub_top (converse v) (omega (arith, converse_lt v))) (converse_twice v small) C.some
 
   -- and the takes from it
-  pub closes_by_pair : (h q w : List ℕ) (e : Ended) → going h q ≡ going cut (joins (pair_of i j) w) → w ≡ [] → e ≡ run allen n enough 0 h q → tried_by e ≡ closes_to allen n cut
-  closes_by_pair h q w e a z f =
-      ap tried_by
-      (f ∙ ap (λ (o : Out). go_on o (contradiction 0) (run allen n enough 0)) a
-      ∙ ap (run allen n enough 0 cut) (ap (joins (pair_of i j)) z ∙ joins_alone (pair_of i j)))
+  pub closes_by_pair : (e : Ended) → e ≡ run allen n enough 0 cut (joins (pair_of i j) []) → tried_by e ≡ closes_to allen n cut
+  closes_by_pair e f =
+      ap tried_by (f ∙ ap (run allen n enough 0 cut) (joins_alone (pair_of i j)))
       ∙ sym (closes_one allen lawful eq_lawful of_sets n ones sized (λ x y. top_lt) g (closed_fair n g C.grid) C.grid.accepted.long C.grid.closed i j
       C.from C.to C.apart v C.inside (converse_twice v small) C.some)
+
+  -- the pair alone waits
+  pub pair_waits : Pairs n (joins (pair_of i j) [])
+  pair_waits = pairs-joins n (pair_of i j) [] (pair_ok n i j C.grid.accepted.few C.from C.to C.apart) (λ p h. absurd (omega (arith, h, occurs_nil p)))

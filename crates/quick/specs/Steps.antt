@@ -1,6 +1,5 @@
 -- Quick closing of an accepted grid, and closing again after a cut. Inner functions cite this; the public statement does not.
 use Rattle.std.specs.Prelude.{◌≡◌, List, ℕ, ◌<◌}
-use Rattle.refusal.specs.Answered.{answers}
 use Rattle.grid.specs.Cells.{cell}
 use Rattle.grid.specs.Accepted.{Accepted}
 use Rattle.theory.specs.Allen.{allen}
@@ -8,12 +7,12 @@ use Rattle.theory.specs.Calculus.{Sub}
 use Rattle.theory.specs.Closing.{Closed}
 use Rattle.theory.specs.Fair.{Full}
 use Rattle.theory.specs.Quick.{Ended}
-use Rattle.quick.specs.declared.QuickAnswer.{QuickAnswer}
-use Rattle.quick.specs.Answers.{said_of, said_by, cells_by}
+use Rattle.takes.specs.declared.End.{End}
+use Rattle.quick.specs.Answers.{said_by, cells_by}
 
 -- the answer and the cells are those of a run's end
-pub record Shows (n : ℕ) (e : Ended) (r : QuickAnswer) (g : List ℕ) : Type 0 where
-  pub answer : said_of r ≡ answers (said_by e)
+pub record Shows (n : ℕ) (e : Ended) (r : End) (g : List ℕ) : Type 0 where
+  pub answer : r ≡ said_by e
   pub cells : g ≡ cells_by n e
 
 -- a closed grid: accepted, and with no empty cell
