@@ -34,11 +34,11 @@ pub rule_ran : (n limit : ℕ) (g : List ℕ) (b : Bool) → b ≡ some_empty g 
 rule_ran n limit g b s f q e r r' g' p k =
     rule_run n limit g (sym s ∙ f) ∙ ap (run allen n limit 0 g) (sym e) ∙ sym p ∙ ap (λ (x : End). ended x g') k
 
-module _ (n t : ℕ) (g : List ℕ) (e : Ended) where
-  pub shows_contradiction : e ≡ contradiction t → g ≡ replicate (n * n) 0 → Shows n e (Contradiction t) g
-  shows_contradiction q h = record { answer = sym (ap said_by q); cells = h ∙ sym (ap (cells_by n) q) }
+-- a contradiction leaves zeros
+pub shows_contradiction : (n t : ℕ) (r : End) (g : List ℕ) (e : Ended) → e ≡ contradiction t → r ≡ Contradiction t → g ≡ replicate (n * n) 0 → Shows n e r g
+shows_contradiction n t r g e q k h = record { answer = k ∙ sym (ap said_by q); cells = h ∙ sym (ap (cells_by n) q) }
 
--- an end that is no contradiction is the answer, and leaves its cells
+-- any other end leaves its cells
 pub shows_ended : (n : ℕ) (r : End) (g : List ℕ) (e : Ended) → e ≡ ended r g → ((t : ℕ) → r ≡ Contradiction t → ⊥) → Shows n e r g
 shows_ended n r g e q other = record { answer = said r ∙ sym (ap said_by q); cells = cells r other ∙ sym (ap (cells_by n) q) }
   where
