@@ -25,9 +25,10 @@ use Rattle.theory.proofs.QuickRight.{empty_right}
 use Rattle.theory.proofs.GivenLaws.{fine, fair, hole}
 use Rattle.theory.proofs.AllenLaws.{lawful, eq_lawful}
 use Rattle.plain.specs.Answers.{PlainCloses}
-use Rattle.plain.specs.Routes.{Sweeps}
-use Rattle.plain.specs.declared.PlainAnswer.{PlainAnswer}
-use Rattle.plain.specs.declared.PlainAnswer.TheVariants.{Closed, Contradiction, Refused}
+use Rattle.plain.specs.Routes.{Empties, ComesToRest, Sweeps}
+use Rattle.plain.specs.declared.End.{End}
+use Rattle.plain.specs.declared.End.TheVariants.{Closed, Contradiction}
+use Rattle.std.proofs.Common.{Result, Ok, Err}
 
 module _ (n : ℕ) (g : List ℕ) (a : Accepted n g) where
   good : some_empty g ≡ false → Good allen n g g
@@ -37,7 +38,7 @@ module _ (n : ℕ) (g : List ℕ) (a : Accepted n g) where
   none-at-start e = let h = hole n g a e in empty_right allen lawful n g (fine n g a) h.0 h.1 h.2 h.3 h.4
 
   -- a cell empty at the start, or a route that leaves nothing: the closing is empty throughout
-  none_left : (some_empty g ≡ true) ⊎ DeadEnd allen n g → Closing allen n (cell n g) (λ i j. 0)
+  none_left : Empties n g → Closing allen n (cell n g) (λ i j. 0)
   none_left (inl e) = none-at-start e
   none_left (inr d) = go (some_empty g) refl
     where
@@ -45,12 +46,12 @@ module _ (n : ℕ) (g : List ℕ) (a : Accepted n g) where
       go true e = none-at-start e
       go false e = dead_closing allen lawful n g (good e) d
 
-  some_event : (some_empty g ≡ true) ⊎ DeadEnd allen n g → 0 < n
+  some_event : Empties n g → 0 < n
   some_event (inl e) = let h = hole n g a e in omega (arith, h.2)
   some_event (inr d) = omega (arith, d.route.ha)
 
   module _ (g' : List ℕ) (e : grid_refusal n g ≡ 0) (l : length g' ≡ length g) where
-    cleared : ((some_empty g ≡ true) ⊎ DeadEnd allen n g) × (g' ≡ replicate (n * n) 0) → PlainCloses n g Contradiction g'
+    cleared : Sweeps n g Contradiction g' → PlainCloses n g (Ok Contradiction) g'
     cleared w =
         record {
           refusal = sym e;
@@ -65,7 +66,7 @@ module _ (n : ℕ) (g : List ℕ) (a : Accepted n g) where
               (subst (EmptyCell n) (sym w.1) (cleared_empty n (some_event w.0)), w.1);
         }
 
-    swept : Sweeps n g Closed g' → PlainCloses n g Closed g'
+    swept : Sweeps n g Closed g' → PlainCloses n g (Ok Closed) g'
     swept w =
         let G : Good allen n g g' = cuts_good allen lawful n g g (good w.0) w.1 in
         record {
@@ -77,12 +78,11 @@ module _ (n : ℕ) (g : List ℕ) (a : Accepted n g) where
           contradiction = λ q. let z : ◌≡◌ {A = ℕ} 0 1 = cc in absurd (omega arith);
         }
 
-    pub closes : (r : PlainAnswer) → Sweeps n g r g' → PlainCloses n g r g'
+    pub closes : (r : End) → Sweeps n g r g' → PlainCloses n g (Ok r) g'
     closes Closed w = swept w
     closes Contradiction w = cleared w
-    closes (Refused r) w = absurd w
 
-pub refuses : (n : ℕ) (g : List ℕ) (r : Refusal) → number_of r ≡ grid_refusal n g → PlainCloses n g (Refused r) g
+pub refuses : (n : ℕ) (g : List ℕ) (r : Refusal) → number_of r ≡ grid_refusal n g → PlainCloses n g (Err r) g
 refuses n g r e =
     record {
       refusal = e;
@@ -95,37 +95,37 @@ refuses n g r e =
 
 -- ---- the kind of the answer and the cells are those of the given grid's closing
 
-abbrev pub plain_kind : PlainAnswer → Kind
-plain_kind Closed = Kind.closes
-plain_kind Contradiction = contradicts
-plain_kind (Refused r) = Kind.refuses (number_of r)
+abbrev pub plain_kind : Result End Refusal → Kind
+plain_kind (Ok Closed) = Kind.closes
+plain_kind (Ok Contradiction) = contradicts
+plain_kind (Err r) = Kind.refuses (number_of r)
 
 module _ (n : ℕ) (g k : List ℕ) where
-  largest : (s : PlainAnswer) → grid_refusal n g ≡ 0 → PlainCloses n g s k → Largest n g k
+  largest : (s : Result End Refusal) → grid_refusal n g ≡ 0 → PlainCloses n g s k → Largest n g k
   largest s e p = record { none = e; long = p.long ∙ (accepted-grid n g e).long; closing = p.largest e }
 
-  pub plain_ends : (s : PlainAnswer) → PlainCloses n g s k → EndsAs n g (plain_kind s) k
-  plain_ends Closed p = full (largest Closed (sym p.refusal) p) (p.closed refl)
-  plain_ends Contradiction p = emptied (largest Contradiction (sym p.refusal) p) (p.contradiction refl).0
-  plain_ends (Refused r) p =
+  pub plain_ends : (s : Result End Refusal) → PlainCloses n g s k → EndsAs n g (plain_kind s) k
+  plain_ends (Ok Closed) p = full (largest (Ok Closed) (sym p.refusal) p) (p.closed refl)
+  plain_ends (Ok Contradiction) p = emptied (largest (Ok Contradiction) (sym p.refusal) p) (p.contradiction refl).0
+  plain_ends (Err r) p =
       let due : 0 < grid_refusal n g = omega (arith, p.refusal, number_pos r) in
       subst (λ (x : ℕ). EndsAs n g (Kind.refuses x) k) (sym p.refusal)
       (subst (EndsAs n g (Kind.refuses (grid_refusal n g))) (sym (p.kept due)) (refusing due))
 
 -- ---- any two outcomes that the statement allows are equal
 
-kind_unique : (r s : PlainAnswer) → plain_kind r ≡ plain_kind s → r ≡ s
-kind_unique Closed Closed e = refl
-kind_unique Contradiction Contradiction e = refl
-kind_unique (Refused r) (Refused s) e = ap Refused (number_unique r s (cc))
-kind_unique Closed Contradiction e = let z : ◌≡◌ {A = ℕ} 0 1 = cc in absurd (omega arith)
-kind_unique Closed (Refused s) e = let z : ◌≡◌ {A = ℕ} 0 1 = cc in absurd (omega arith)
-kind_unique Contradiction Closed e = let z : ◌≡◌ {A = ℕ} 0 1 = cc in absurd (omega arith)
-kind_unique Contradiction (Refused s) e = let z : ◌≡◌ {A = ℕ} 0 1 = cc in absurd (omega arith)
-kind_unique (Refused r) Closed e = let z : ◌≡◌ {A = ℕ} 0 1 = cc in absurd (omega arith)
-kind_unique (Refused r) Contradiction e = let z : ◌≡◌ {A = ℕ} 0 1 = cc in absurd (omega arith)
+kind_unique : (r s : Result End Refusal) → plain_kind r ≡ plain_kind s → r ≡ s
+kind_unique (Ok Closed) (Ok Closed) e = refl
+kind_unique (Ok Contradiction) (Ok Contradiction) e = refl
+kind_unique (Err r) (Err s) e = ap Err (number_unique r s (cc))
+kind_unique (Ok Closed) (Ok Contradiction) e = let z : ◌≡◌ {A = ℕ} 0 1 = cc in absurd (omega arith)
+kind_unique (Ok Closed) (Err s) e = let z : ◌≡◌ {A = ℕ} 0 1 = cc in absurd (omega arith)
+kind_unique (Ok Contradiction) (Ok Closed) e = let z : ◌≡◌ {A = ℕ} 0 1 = cc in absurd (omega arith)
+kind_unique (Ok Contradiction) (Err s) e = let z : ◌≡◌ {A = ℕ} 0 1 = cc in absurd (omega arith)
+kind_unique (Err r) (Ok Closed) e = let z : ◌≡◌ {A = ℕ} 0 1 = cc in absurd (omega arith)
+kind_unique (Err r) (Ok Contradiction) e = let z : ◌≡◌ {A = ℕ} 0 1 = cc in absurd (omega arith)
 
-pub plain_unique : (n : ℕ) (g : List ℕ) (r s : PlainAnswer) (h k : List ℕ) → PlainCloses n g r h → PlainCloses n g s k → (r ≡ s) × (h ≡ k)
+pub plain_unique : (n : ℕ) (g : List ℕ) (r s : Result End Refusal) (h k : List ℕ) → PlainCloses n g r h → PlainCloses n g s k → (r ≡ s) × (h ≡ k)
 plain_unique n g r s h k p q =
     let u = ends_unique n g (plain_ends n g h r p) (plain_ends n g k s q) in
     (kind_unique r s u.0, u.1)

@@ -9,9 +9,7 @@ use native.Mathlib.Omega.{arith}
 use lib.Bits.{bit_and}
 use lib.Count.{ones}
 use Rattle.relation.specs.Composition.{converse, compose}
-use Rattle.relation.specs.declared.Rows.{Rows}
 use Rattle.grid.specs.Cells.{cell, put_both}
-use Rattle.grid.specs.Steps.{RowsAt}
 use Rattle.grid.proofs.CellLaws.{cell_both_other}
 use Rattle.theory.specs.Fair.{Fair}
 use Rattle.theory.specs.Allen.{allen}
@@ -19,16 +17,7 @@ use Rattle.theory.specs.Quick.{cut_to}
 use Rattle.theory.specs.Sweeps.{Distinct, Progress, DeadEnd, Shrinks, none}
 use Rattle.theory.proofs.AllenLaws.{lawful, sized, eq_lawful}
 use Rattle.theory.proofs.PlainLaws.{progress_none, progress_one, progress_then}
-use Rattle.plain.specs.Routes.{OverTo, EventTo, AllTo, Still, StillUntil, Changes, Finds, Pass}
-use Rattle.plain.specs.declared.Swept.{Swept}
-use Rattle.plain.specs.declared.Swept.TheVariants.{Dead, Moved}
-
-module _ (n : ℕ) (r : Swept) (S : ℕ → ℕ → ℕ → Type 0) (g g' : List ℕ) where
-  pub pass_dead : Pass n S g r g' → r ≡ Dead → DeadEnd allen n g
-  pass_dead p e = subst (λ (x : Swept). Pass n S g x g') e p
-
-  pub pass_moved : (c : Bool) → Pass n S g r g' → r ≡ Moved c → Progress allen ones n S g g' c
-  pass_moved c p e = subst (λ (x : Swept). Pass n S g x g') e p
+use Rattle.plain.specs.Routes.{OverTo, EventTo, AllTo, Still, StillUntil, Changes}
 
 -- the next part of a sweep
 module _ (n : ℕ) (g g₁ g₂ : List ℕ) (c d : Bool) (F : Fair allen n g) where
@@ -80,12 +69,6 @@ module _ (n m b k r : ℕ) (g : List ℕ) where
       go a l u (yes v) = w.each a l v
       go a l u (no v) = let e : a ≡ r = omega arith in subst (Still n m b g) (sym e) s
 
-  pub finds_end : b ≤ r → StillUntil n m b g k r → Finds n m b g k b 0
-  finds_end h w = let e : r ≡ b = omega (arith, w.within) in record { passed = subst (StillUntil n m b g k) e w; changes = λ l. absurd (omega arith) }
-
-pub found_below : (n m b : ℕ) (g : List ℕ) (k r set : ℕ) → Finds n m b g k r set → (r ≡ b → ⊥) → r < b
-found_below n m b g k r set f ne = omega (arith, f.passed.within, ne)
-
 pub over_passed : (n m b k r : ℕ) (g g₁ : List ℕ) (c : Bool) → Fair allen n g → Fair allen n g₁ → Progress allen ones n (OverTo n m b k) g g₁ c → StillUntil n m b g₁ k r
     → Progress allen ones n (OverTo n m b r) g g₁ c
 over_passed n m b k r g g₁ c F F₁ p w =
@@ -135,14 +118,9 @@ module _ (n m b a set : ℕ) (g : List ℕ) (F : Fair allen n g) (k : Changes n 
           is = rw (← k.left) q;
         }
 
-    -- and it leaves the cell of which the rows are
-    pub rows_on : (rows : Rows) → RowsAt n m b g rows → RowsAt n m b g' rows
-    rows_on rows w =
-        record {
-          right = w.right;
-          set = w.set
-              ∙ sym (ap (λ (x : List ℕ). cell n x m b) q ∙ cell_both_other converse n g F.fine.fits a b set (omega arith) hb m b hb (λ e. apart (sym e.0)) (λ e. mb e.0));
-        }
+    -- and it leaves cell (m, b)
+    pub half-same : cell n g' m b ≡ cell n g m b
+    half-same = ap (λ (x : List ℕ). cell n x m b) q ∙ cell_both_other converse n g F.fine.fits a b set (omega arith) hb m b hb (λ e. apart (sym e.0)) (λ e. mb e.0)
 
 -- a sweep without a change: no route changes a cell
 pub all-still : (n : ℕ) (g g' : List ℕ) (c : Bool) → c ≡ false → Progress allen ones n (AllTo n n) g g' c → (a m b : ℕ) → a < b → Distinct n a b m → cut_to allen (cell n g') a m b ≡ cell n g' a b

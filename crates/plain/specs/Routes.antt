@@ -1,14 +1,13 @@
 -- The routes that a part of a sweep goes over, and what it comes to. Inner functions cite this; the public statement does not.
-use Rattle.std.specs.Prelude.{◌≡◌, ◌⊎◌, true, false, List, ℕ, ◌*◌, ◌≤◌, ◌<◌, replicate}
+use Rattle.std.specs.Prelude.{◌≡◌, ◌⊎◌, Bool, true, false, List, ℕ, ◌*◌, ◌≤◌, ◌<◌, replicate, Option, Some, None, Result, Ok, Err}
 use Rattle.std.specs.Int.Count.{ones}
 use Rattle.grid.specs.Cells.{cell, some_empty}
 use Rattle.theory.specs.Allen.{allen}
 use Rattle.theory.specs.Quick.{cut_to}
 use Rattle.theory.specs.Sweeps.{Distinct, Cuts, DeadEnd, Progress}
-use Rattle.plain.specs.declared.Swept.{Swept}
-use Rattle.plain.specs.declared.Swept.TheVariants.{Dead, Moved}
-use Rattle.plain.specs.declared.PlainAnswer.{PlainAnswer}
-use Rattle.plain.specs.declared.PlainAnswer.TheVariants.{Closed, Contradiction, Refused}
+use Rattle.grid.specs.declared.Emptied.{Emptied}
+use Rattle.plain.specs.declared.End.{End}
+use Rattle.plain.specs.declared.End.TheVariants.{Closed, Contradiction}
 
 -- over m to b, from events below k
 abbrev pub OverTo : ℕ → ℕ → ℕ → ℕ → ℕ → ℕ → ℕ → Type 0
@@ -37,19 +36,31 @@ pub record Changes (n m b : ℕ) (g : List ℕ) (a set : ℕ) : Type 0 where
   pub left : set ≡ cut_to allen (cell n g) a m b
   pub less : set ≡ cell n g a b → ⊥
 
--- the route from r is the first from k on that changes its cell, or r is b
-pub record Finds (n m b : ℕ) (g : List ℕ) (k r set : ℕ) : Type 0 where
-  pub passed : StillUntil n m b g k r
-  pub changes : r < b → Changes n m b g r set
+-- the route from a is the first from k on that changes its cell; or none up to b does
+abbrev pub Finds : ℕ → ℕ → ℕ → List ℕ → ℕ → Option (ℕ × ℕ) → Type 0
+Finds n m b g k (Some f) = StillUntil n m b g k f.0 × (f.0 < b) × Changes n m b g f.0 f.1
+Finds n m b g k None = StillUntil n m b g k b
 
 -- a part of a sweep over the routes S
-abbrev pub Pass : ℕ → (ℕ → ℕ → ℕ → Type 0) → List ℕ → Swept → List ℕ → Type 0
-Pass n S g Dead g' = DeadEnd allen n g
-Pass n S g (Moved c) g' = Progress allen ones n S g g' c
+abbrev pub Pass : ℕ → (ℕ → ℕ → ℕ → Type 0) → List ℕ → Result Bool Emptied → List ℕ → Type 0
+Pass n S g (Err e) g' = DeadEnd allen n g
+Pass n S g (Ok c) g' = Progress allen ones n S g g' c
+
+-- a cell is empty, or cuts lead to a route that leaves nothing
+abbrev pub Empties : ℕ → List ℕ → Type 0
+Empties n g = (some_empty g ≡ true) ⊎ DeadEnd allen n g
+
+-- no cell is empty, and cuts lead to a grid that no route changes
+abbrev pub ComesToRest : ℕ → List ℕ → List ℕ → Type 0
+ComesToRest n g g' =
+    (some_empty g ≡ false) × Cuts allen n g g' × ((a m b : ℕ) → a < b → Distinct n a b m → cut_to allen (cell n g') a m b ≡ cell n g' a b)
+
+-- the sweeps of an accepted grid, until one changes nothing
+abbrev pub Rests : ℕ → List ℕ → Result (Unit {0}) Emptied → List ℕ → Type 0
+Rests n g (Err e) g' = Empties n g
+Rests n g (Ok u) g' = ComesToRest n g g'
 
 -- how the sweeps of an accepted grid end
-abbrev pub Sweeps : ℕ → List ℕ → PlainAnswer → List ℕ → Type 0
-Sweeps n g Contradiction g' = ((some_empty g ≡ true) ⊎ DeadEnd allen n g) × (g' ≡ replicate (n * n) 0)
-Sweeps n g Closed g' =
-    (some_empty g ≡ false) × Cuts allen n g g' × ((a m b : ℕ) → a < b → Distinct n a b m → cut_to allen (cell n g') a m b ≡ cell n g' a b)
-Sweeps n g (Refused r) g' = ⊥
+abbrev pub Sweeps : ℕ → List ℕ → End → List ℕ → Type 0
+Sweeps n g Contradiction g' = Empties n g × (g' ≡ replicate (n * n) 0)
+Sweeps n g Closed g' = ComesToRest n g g'

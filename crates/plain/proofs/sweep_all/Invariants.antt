@@ -1,5 +1,4 @@
 use mathlib.Core.Path.{◌≡◌}
-use Prim.Native.Nat.{◌≤◌, ◌-◌}
 use lib.Count.{ones}
 use lib.ListN.{length}
 use Rattle.theory.specs.Allen.{allen}
@@ -8,7 +7,4 @@ use Rattle.plain.specs.Routes.{AllTo}
 use Rattle.plain.proofs.sweep_all.Given as goal
 
 abbrev pub invariant-loop-b : goal.invariant-loop-b
-invariant-loop-b l = (l.b ≤ l.n) × (length l.g ≡ length l.initial.g) × Progress allen ones l.n (AllTo l.n l.b) l.initial.g l.g l.changed
-
-abbrev pub decreases-loop-b : goal.decreases-loop-b
-decreases-loop-b l = l.n - l.b
+invariant-loop-b l = (length l.g ≡ length l.initial.g) × Progress allen ones l.n (AllTo l.n l.b) l.initial.g l.g l.changed

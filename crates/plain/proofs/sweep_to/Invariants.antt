@@ -1,5 +1,4 @@
 use mathlib.Core.Path.{◌≡◌}
-use Prim.Native.Nat.{◌≤◌, ◌-◌}
 use lib.Count.{ones}
 use lib.ListN.{length}
 use Rattle.theory.specs.Allen.{allen}
@@ -8,7 +7,4 @@ use Rattle.plain.specs.Routes.{EventTo}
 use Rattle.plain.proofs.sweep_to.Given as goal
 
 abbrev pub invariant-loop-m : goal.invariant-loop-m
-invariant-loop-m l = (l.m ≤ l.n) × (length l.g ≡ length l.initial.g) × Progress allen ones l.n (EventTo l.n l.b l.m) l.initial.g l.g l.changed
-
-abbrev pub decreases-loop-m : goal.decreases-loop-m
-decreases-loop-m l = l.n - l.m
+invariant-loop-m l = (length l.g ≡ length l.initial.g) × Progress allen ones l.n (EventTo l.n l.b l.m) l.initial.g l.g l.changed

@@ -3,7 +3,7 @@ use lib.Count.{ones}
 use lib.ListN.{length}
 use Rattle.theory.specs.Allen.{allen}
 use Rattle.theory.specs.Sweeps.{Cuts, weight}
-use Rattle.plain.proofs.sweep_accepted.Given as goal
+use Rattle.plain.proofs.sweep_to_rest.Given as goal
 
 abbrev pub invariant-loop-changed : goal.invariant-loop-changed
 invariant-loop-changed l = (length l.g ≡ length l.initial.g) × Cuts allen l.n l.initial.g l.g
