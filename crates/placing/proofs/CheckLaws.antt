@@ -14,8 +14,8 @@ use Rattle.grid.proofs.AcceptedLaws.{sized}
 use Rattle.refusal.proofs.AnsweredLaws.{first_here, first_next, first-none}
 use Rattle.placing.specs.Placing.{at}
 use Rattle.placing.specs.Checking.{length_refusal, some_late, rest_refusal, check_refusal, CheckSays}
-use Rattle.placing.specs.declared.CheckAnswer.{CheckAnswer}
-use Rattle.placing.specs.declared.CheckAnswer.TheVariants.{Meets as meets, Misses as misses, Refused as refused}
+use Rattle.refusal.specs.declared.Refusal.{Refusal}
+use Rattle.std.proofs.Common.{Result, Ok, Err}
 
 -- ---- refusals 1, 2 and 6
 
@@ -98,13 +98,13 @@ module _ (n : ℕ) (g : List ℕ) (xs : List ℤ) where
   check_on_time e = rest_on_time n g xs (first-none (length_refusal n g (length xs)) (rest_refusal n g xs) e).1
 
   -- any two answers that the statement allows are equal
-  pub check_unique : (a b : CheckAnswer) → CheckSays n g xs a → CheckSays n g xs b → a ≡ b
-  check_unique meets meets h k = refl
-  check_unique meets misses h k = absurd (k.1 h.1)
-  check_unique meets (refused r) h k = absurd (omega (arith, number_pos r, sym h.0 ∙ k))
-  check_unique misses meets h k = absurd (h.1 k.1)
-  check_unique misses misses h k = refl
-  check_unique misses (refused r) h k = absurd (omega (arith, number_pos r, sym h.0 ∙ k))
-  check_unique (refused r) meets h k = absurd (omega (arith, number_pos r, sym k.0 ∙ h))
-  check_unique (refused r) misses h k = absurd (omega (arith, number_pos r, sym k.0 ∙ h))
-  check_unique (refused r) (refused s) h k = ap refused (number_unique r s (sym h ∙ k))
+  pub check_unique : (a b : Result Bool Refusal) → CheckSays n g xs a → CheckSays n g xs b → a ≡ b
+  check_unique (Ok true) (Ok true) h k = refl
+  check_unique (Ok true) (Ok false) h k = absurd (k.1 h.1)
+  check_unique (Ok true) (Err r) h k = absurd (omega (arith, number_pos r, sym h.0 ∙ k))
+  check_unique (Ok false) (Ok true) h k = absurd (h.1 k.1)
+  check_unique (Ok false) (Ok false) h k = refl
+  check_unique (Ok false) (Err r) h k = absurd (omega (arith, number_pos r, sym h.0 ∙ k))
+  check_unique (Err r) (Ok true) h k = absurd (omega (arith, number_pos r, sym k.0 ∙ h))
+  check_unique (Err r) (Ok false) h k = absurd (omega (arith, number_pos r, sym k.0 ∙ h))
+  check_unique (Err r) (Err s) h k = ap Err (number_unique r s (sym h ∙ k))

@@ -1,6 +1,7 @@
 -- Signed numbers of 32 bits: what is read back from the bits is the number.
-use mathlib.Core.Bool.{true, false}
-use mathlib.Core.Path.{◌≡◌, refl, sym, ap, ap₂, ◌∙◌, subst}
+use mathlib.Core.Bool.{Bool, true, false, cond}
+use mathlib.Core.Path.{◌≡◌, refl, ap, ap₂, ◌∙◌}
+use Rattle.std.proofs.Common.{int_cmp, Ordering, Less, Equal, Greater}
 use Prim.Native.Nat.{◌^◌, ◌<◌}
 use native.Mathlib.Nat.{not-suc-le-zero}
 use native.Mathlib.Omega.{arith}
@@ -10,8 +11,8 @@ use lib.Signed.{mag, lt_z, non_neg}
 use mir.Syntax.{w32}
 use mir.Val.{to_z, of_z, hbits, Fits}
 use mir.Facts.{to_z-of_z}
-use Rattle.relation.specs.Comparing.{rel_by}
-use Rattle.placing.specs.Placing.{natural_of}
+use Rattle.relation.specs.Comparing.{order}
+use Rattle.placing.specs.Steps.{order_of}
 use Rattle.relation.proofs.Order.{cmp}
 
 -- a number handed to a test or a call
@@ -31,35 +32,12 @@ module _ (x y : ℤ) (hx : Small x) (hy : Small y) where
   pub cmp_back : cmp (back x) (back y) ≡ cmp x y
   cmp_back = ap₂ (λ (p q : ℤ). cmp p q) {x = back x} {y = x} {u = back y} {v = y} (back_is x hx) (back_is y hy)
 
-pub rel_by-back : (a b c d : ℤ) → Small a → Small b → Small c → Small d → rel_by lt_z (back a) (back b) (back c) (back d) ≡ rel_by lt_z a b c d
-rel_by-back a b c d ha hb hc hd =
-    ap₂ (λ (p q : ℤ). rel_by lt_z p q (back c) (back d)) {x = back a} {y = a} {u = back b} {v = b} (back_is a ha) (back_is b hb)
-    ∙ ap₂ (λ (p q : ℤ). rel_by lt_z a b p q) {x = back c} {y = c} {u = back d} {v = d} (back_is c hc) (back_is d hd)
-
--- ---- a number that is not negative, as an unsigned one
-
--- the test x < 0 failed, or was passed
-module _ (x : ℤ) (h : Small x) where
-  test_is : lt_z (back x) (pos 0) ≡ lt_z x (pos 0)
-  test_is = ap (λ (y : ℤ). lt_z y (pos 0)) (back_is x h)
-
-  pub cast_fits : lt_z (back x) (pos 0) ≡ false → T (non_neg (back x)) × Fits w32 (nat_abs (back x))
-  cast_fits e = subst (λ (y : ℤ). T (non_neg y) × Fits w32 (nat_abs y)) (sym (back_is x h)) (go x h (sym test_is ∙ e))
+-- what a comparison told, of the numbers themselves
+module _ (x y : ℤ) (o : Ordering) (hx : Small x) (hy : Small y) where
+  pub told : o ≡ int_cmp (back x) (back y) → order_of o ≡ cmp x y
+  told e = ap order_of e ∙ go (lt_z (back x) (back y)) (lt_z (back y) (back x)) ∙ cmp_back x y hx hy
     where
-      go : (x : ℤ) → Small x → lt_z x (pos 0) ≡ false → T (non_neg x) × Fits w32 (nat_abs x)
-      go (pos k) h e = (tt, record { fits = omega arith })
-      go (negsuc k) h e = absurd (subst T e tt)
-
-  pub natural_pos : lt_z (back x) (pos 0) ≡ false → nat_abs (back x) ≡ natural_of x
-  natural_pos e = ap nat_abs (back_is x h) ∙ go x (sym test_is ∙ e)
-    where
-      go : (x : ℤ) → lt_z x (pos 0) ≡ false → nat_abs x ≡ natural_of x
-      go (pos k) e = refl
-      go (negsuc k) e = absurd (subst T e tt)
-
-  pub natural_neg : lt_z (back x) (pos 0) ≡ true → 0 ≡ natural_of x
-  natural_neg e = go x (sym test_is ∙ e)
-    where
-      go : (x : ℤ) → lt_z x (pos 0) ≡ true → 0 ≡ natural_of x
-      go (pos k) e = absurd (not-suc-le-zero (ltb→lt k 0 (subst T (sym e) tt)))
-      go (negsuc k) e = refl
+      go : (a b : Bool) → order_of (cond a Less (cond b Greater Equal)) ≡ order a b
+      go true b = refl
+      go false true = refl
+      go false false = refl

@@ -1,13 +1,12 @@
 -- Rules 5.3 and 7: the refusals 1 to 7 in their order, and what the checker says.
-use Rattle.std.specs.Prelude.{◌≡◌, Bool, not, cond, List, ℕ, ◌+◌, ◌*◌, eqb, length, ℤ}
+use Rattle.std.specs.Prelude.{◌≡◌, Bool, true, false, not, cond, List, ℕ, ◌+◌, ◌*◌, eqb, length, ℤ, Result, Ok, Err}
 use Rattle.std.specs.Int.Signed.{lt_z}
 use Rattle.refusal.specs.Answered.{first_of}
 use Rattle.refusal.specs.Numbers.{number_of}
 use Rattle.relation.specs.Sets.{some}
 use Rattle.grid.specs.Accepted.{size_refusal, cell_refusal}
 use Rattle.placing.specs.Placing.{at, MeetsAt}
-use Rattle.placing.specs.declared.CheckAnswer.{CheckAnswer}
-use Rattle.placing.specs.declared.CheckAnswer.TheVariants.{Meets as meets, Misses as misses, Refused as refused}
+use Rattle.refusal.specs.declared.Refusal.{Refusal}
 
 -- 1, then 2, then 6 for a placing, or room for one, of m numbers; 0 is none
 unfoldable pub length_refusal : ℕ → List ℕ → ℕ → ℕ
@@ -29,7 +28,7 @@ unfoldable pub check_refusal : ℕ → List ℕ → List ℤ → ℕ
 check_refusal n g xs = first_of (length_refusal n g (length xs)) (rest_refusal n g xs)
 
 -- a refusal exactly in its case; yes exactly if the placing meets every cell
-abbrev pub CheckSays : ℕ → List ℕ → List ℤ → CheckAnswer → Type 0
-CheckSays n g xs meets = (check_refusal n g xs ≡ 0) × MeetsAt n g xs
-CheckSays n g xs misses = (check_refusal n g xs ≡ 0) × (MeetsAt n g xs → ⊥)
-CheckSays n g xs (refused r) = check_refusal n g xs ≡ number_of r
+abbrev pub CheckSays : ℕ → List ℕ → List ℤ → Result Bool Refusal → Type 0
+CheckSays n g xs (Ok true) = (check_refusal n g xs ≡ 0) × MeetsAt n g xs
+CheckSays n g xs (Ok false) = (check_refusal n g xs ≡ 0) × (MeetsAt n g xs → ⊥)
+CheckSays n g xs (Err r) = check_refusal n g xs ≡ number_of r

@@ -3,13 +3,13 @@ use Rattle.std.specs.Prelude.{◌≡◌, List, ℕ, ◌*◌, ◌≤◌, ◌<◌,
 use Rattle.relation.specs.Comparing.{Order, less, same, more}
 use Rattle.placing.specs.Placing.{at}
 use Rattle.placing.specs.Settling.{ends_before, values_below, gapless_end}
-use Rattle.placing.specs.declared.Compared.{Compared}
-use Rattle.placing.specs.declared.Compared.TheVariants.{Less, Same, More}
+use Rattle.std.specs.declared.cmp.Ordering.{Ordering}
+use Rattle.std.specs.declared.cmp.Ordering.TheVariants.{Less, Equal, Greater}
 
-abbrev pub order_of : Compared → Order
+abbrev pub order_of : Ordering → Order
 order_of Less = less
-order_of Same = same
-order_of More = more
+order_of Equal = same
+order_of Greater = more
 
 -- how many ends are before each of the 2 * n ends
 pub record Counts (n : ℕ) (g counts : List ℕ) : Type 0 where
@@ -26,8 +26,3 @@ pub record Belows (m : ℕ) (counts belows : List ℕ) : Type 0 where
 -- the numbers of the 2 * n ends
 pub record Numbers (n : ℕ) (g : List ℕ) (xs : List ℤ) : Type 0 where
   pub each : (p : ℕ) → p < 2 * n → at xs p ≡ gapless_end n g p
-
--- the room is filled with the first numbers of a list
-pub record Copied (room after xs : List ℤ) : Type 0 where
-  pub size : length after ≡ length room
-  pub each : (p : ℕ) → p < length room → at after p ≡ at xs p

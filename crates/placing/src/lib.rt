@@ -1,101 +1,62 @@
 // Placings: the checker, and the one placing without gaps of a scenario.
 #![tactic(auto)]
 
-ghost use Rattle.std.specs.Prelude.{◌≡◌, ◌+◌, ◌*◌, ◌≤◌, ◌<◌, length, get_or};
+ghost use Rattle.std.specs.Prelude.{◌≡◌, ◌+◌, ◌*◌, ◌≤◌, ◌<◌, length};
 ghost use Rattle.std.specs.Int.Signed.{lt_z};
-ghost use Rattle.relation.specs.Comparing.{more, order, rel_by, rel_from};
+ghost use Rattle.relation.specs.Comparing.{more, rel_by, rel_from};
 ghost use Rattle.grid.specs.Accepted.{judged_number};
 ghost use Rattle.placing.specs.Placing.{at, natural_of};
 ghost use Rattle.placing.specs.Checking.{length_refusal, some_late, rest_refusal, check_refusal, CheckSays};
-ghost use Rattle.placing.specs.Settling.{earlier, end_before, ends_before, is_value, relation_at, row_missed, some_missed, Settled};
-ghost use Rattle.placing.specs.Steps.{order_of, most_ends, Counts, Belows, Numbers, Copied};
+ghost use Rattle.placing.specs.Settling.{earlier, end_before, ends_before, relation_at, row_missed, some_missed, Settled};
+ghost use Rattle.placing.specs.Steps.{order_of, most_ends, Counts, Belows, Numbers};
 
-use grid::{EVENTS, Judged};
+use grid::EVENTS;
 use refusal::Refusal;
-
-// What the checker says of a placing.
-#[derive(Clone, Copy)]
-pub enum CheckAnswer {
-    Meets,
-    Misses,
-    Refused(Refusal),
-}
-
-// How one number stands to another.
-#[derive(Clone, Copy)]
-enum Compared {
-    Less,
-    Same,
-    More,
-}
+use std::cmp::Ordering::{self, Equal, Greater, Less};
 
 // The most ends that a placing has.
 const ENDS: usize = 2 * EVENTS;
 
 // The relations under which an end of X is before an end of Y: start or end of X, start or end of Y.
-const EARLIER: [[u16; 2]; 2] = [[2581, 8181], [1, 341]];
+static EARLIER: [[u16; 2]; 2] = [[2581, 8181], [1, 341]];
 
 // Whether a placing meets every cell of a grid.
-pub fn check_placing(g: &[u16], n: usize, placing: &[i32]) -> CheckAnswer
+pub fn check_placing(g: &[u16], n: usize, placing: &[i32]) -> Result<bool, Refusal>
     ensures { CheckSays n g.now placing.now result }
 {
-    let judged = judge_check(g, n, placing);
-    match judged {
-        Judged::Refused(r) => CheckAnswer::Refused(r),
-        Judged::Accepted => {
-            if some_missed(g, n, placing) {
-                CheckAnswer::Misses
-            } else {
-                CheckAnswer::Meets
-            }
-        }
-    }
+    judge_check(g, n, placing)?;
+    Ok(!some_missed(g, n, placing))
 }
 
 // Refusals 1, 2 and 6 of a grid and a placing, or room for one, of so many numbers.
-pub fn judge_lengths(g: &[u16], n: usize, numbers: usize) -> Judged
+pub fn judge_lengths(g: &[u16], n: usize, numbers: usize) -> Result<(), Refusal>
     ensures { judged_number result ≡ length_refusal n g.now numbers }
 {
-    let size = grid::judge_size(g, n);
-    match size {
-        Judged::Refused(r) => Judged::Refused(r),
-        Judged::Accepted => {
-            if numbers == 2 * n {
-                Judged::Accepted
-            } else {
-                Judged::Refused(Refusal::PlacingLength)
-            }
-        }
+    grid::judge_size(g, n)?;
+    if numbers != 2 * n {
+        return Err(Refusal::PlacingLength);
     }
+    Ok(())
 }
 
 // Refusals 1, 2, 6, 3, 4, 5 and 7, in this order.
-fn judge_check(g: &[u16], n: usize, placing: &[i32]) -> Judged
+fn judge_check(g: &[u16], n: usize, placing: &[i32]) -> Result<(), Refusal>
     ensures { judged_number result ≡ check_refusal n g.now placing.now }
 {
-    let lengths = judge_lengths(g, n, placing.len());
-    match lengths {
-        Judged::Refused(r) => Judged::Refused(r),
-        Judged::Accepted => judge_sized(g, n, placing),
-    }
+    judge_lengths(g, n, placing.len())?;
+    judge_sized(g, n, placing)
 }
 
 // Refusals 3, 4, 5 and 7 of a grid and a placing of the right lengths.
-fn judge_sized(g: &[u16], n: usize, placing: &[i32]) -> Judged
+fn judge_sized(g: &[u16], n: usize, placing: &[i32]) -> Result<(), Refusal>
     requires { (n ≤ 32) × (length g.now ≡ n * n) × (2 * n ≤ length placing.now) }
     ensures { judged_number result ≡ rest_refusal n g.now placing.now }
 {
-    let cells = grid::judge_cells(g, n);
-    match cells {
-        Judged::Refused(r) => Judged::Refused(r),
-        Judged::Accepted => {
-            if some_late(n, placing) {
-                Judged::Refused(Refusal::StartNotBeforeEnd)
-            } else {
-                Judged::Accepted
-            }
-        }
+    grid::judge_cells(g, n)?;
+    if some_late(n, placing) {
+        return Err(Refusal::StartNotBeforeEnd);
     }
+    Ok(())
 }
 
 // Some start is not before its end.
@@ -103,71 +64,41 @@ fn some_late(n: usize, placing: &[i32]) -> bool
     requires { (n ≤ 32) × (2 * n ≤ length placing.now) }
     ensures { result ≡ some_late n (at placing.now) }
 {
-    let mut i = 0;
-    while i < n {
-        if !is_less(placing[2 * i], placing[2 * i + 1]) {
+    for i in 0..n {
+        if placing[2 * i] >= placing[2 * i + 1] {
             return true;
         }
-        i += 1;
     }
     false
-}
-
-// A start is before its end.
-fn is_less(start: i32, end: i32) -> bool
-    ensures { result ≡ lt_z start end }
-{
-    start < end
-}
-
-// How x stands to y.
-fn compare(x: i32, y: i32) -> Compared
-    ensures { order_of result ≡ order (lt_z x y) (lt_z y x) }
-{
-    if x < y {
-        return Compared::Less;
-    }
-    if y < x {
-        return Compared::More;
-    }
-    Compared::Same
 }
 
 // The relation of an event from a to b to one from c to d.
 fn relation_of(a: i32, b: i32, c: i32, d: i32) -> usize
     ensures { result ≡ rel_by lt_z a b c d }
 {
-    match compare(b, c) {
-        Compared::Less => 0,
-        Compared::Same => 2,
-        Compared::More => match compare(d, a) {
-            Compared::Less => 1,
-            Compared::Same => 3,
-            Compared::More => sharing(compare(a, c), compare(b, d)),
-        },
+    match (b.cmp(&c), d.cmp(&a)) {
+        (Less, _) => 0,
+        (Equal, _) => 2,
+        (Greater, Less) => 1,
+        (Greater, Equal) => 3,
+        (Greater, Greater) => sharing(a.cmp(&c), b.cmp(&d)),
     }
 }
 
 // The relation of two events that share some time, by their starts and their ends.
-fn sharing(starts: Compared, ends: Compared) -> usize
+fn sharing(starts: Ordering, ends: Ordering) -> usize
     ensures { result ≡ rel_from more more (order_of starts) (order_of ends) }
 {
-    match starts {
-        Compared::Less => match ends {
-            Compared::Less => 4,
-            Compared::Same => 11,
-            Compared::More => 9,
-        },
-        Compared::Same => match ends {
-            Compared::Less => 6,
-            Compared::Same => 12,
-            Compared::More => 7,
-        },
-        Compared::More => match ends {
-            Compared::Less => 8,
-            Compared::Same => 10,
-            Compared::More => 5,
-        },
+    match (starts, ends) {
+        (Less, Less) => 4,
+        (Less, Equal) => 11,
+        (Less, Greater) => 9,
+        (Equal, Less) => 6,
+        (Equal, Equal) => 12,
+        (Equal, Greater) => 7,
+        (Greater, Less) => 8,
+        (Greater, Equal) => 10,
+        (Greater, Greater) => 5,
     }
 }
 
@@ -189,12 +120,10 @@ fn row_missed(g: &[u16], n: usize, placing: &[i32], i: usize) -> bool
     requires { (n ≤ 32) × (i < n) × (n * n ≤ length g.now) × (2 * n ≤ length placing.now) }
     ensures { result ≡ row_missed n g.now (at placing.now) i }
 {
-    let mut j = 0;
-    while j < n {
+    for j in 0..n {
         if !relation::has(grid::get(g, n, i, j), relation_at(placing, i, j)) {
             return true;
         }
-        j += 1;
     }
     false
 }
@@ -204,12 +133,10 @@ fn some_missed(g: &[u16], n: usize, placing: &[i32]) -> bool
     requires { (n ≤ 32) × (n * n ≤ length g.now) × (2 * n ≤ length placing.now) }
     ensures { result ≡ some_missed n g.now (at placing.now) }
 {
-    let mut i = 0;
-    while i < n {
+    for i in 0..n {
         if row_missed(g, n, placing, i) {
             return true;
         }
-        i += 1;
     }
     false
 }
@@ -236,12 +163,10 @@ fn ends_before(g: &[u16], n: usize, p: usize) -> usize
     ensures { result ≡ ends_before n g.now p }
 {
     let mut found = 0;
-    let mut q = 0;
-    while q < 2 * n {
+    for q in 0..2 * n {
         if is_before(g, n, q, p) {
             found += 1;
         }
-        q += 1;
     }
     found
 }
@@ -251,45 +176,21 @@ fn count_ends(g: &[u16], n: usize) -> [usize; ENDS]
     requires { (n ≤ 32) × (n * n ≤ length g.now) }
     ensures { Counts n g.now result }
 {
-    let mut counts = [0usize; ENDS];
-    let mut p = 0;
-    while p < 2 * n {
+    let mut counts = [0; ENDS];
+    for p in 0..2 * n {
         counts[p] = ends_before(g, n, p);
-        p += 1;
     }
     counts
 }
 
-// Number v is one of the first m counts.
-fn is_value(counts: &[usize], m: usize, v: usize) -> bool
-    requires { m ≤ length counts.now }
-    ensures { result ≡ is_value (λ p. get_or counts.now p 0) m v }
+// How many different counts are below each number up to as many as there are counts.
+fn values_below(counts: &[usize]) -> [usize; ENDS + 1]
+    requires { length counts.now ≤ most_ends }
+    ensures { Belows (length counts.now) counts.now result }
 {
-    let mut p = 0;
-    while p < m {
-        if counts[p] == v {
-            return true;
-        }
-        p += 1;
-    }
-    false
-}
-
-// How many different counts are below each number up to m.
-fn values_below(counts: &[usize], m: usize) -> [usize; ENDS + 1]
-    requires { (m ≤ length counts.now) × (m ≤ most_ends) }
-    ensures { Belows m counts.now result }
-{
-    let mut belows = [0usize; ENDS + 1];
-    let mut v = 0;
-    while v < m {
-        let here = belows[v];
-        belows[v + 1] = if is_value(counts, m, v) {
-            here + 1
-        } else {
-            here
-        };
-        v += 1;
+    let mut belows = [0; ENDS + 1];
+    for v in 0..counts.len() {
+        belows[v + 1] = belows[v] + usize::from(counts.contains(&v));
     }
     belows
 }
@@ -300,26 +201,12 @@ fn number_ends(g: &[u16], n: usize) -> [i32; ENDS]
     ensures { Numbers n g.now result }
 {
     let counts = count_ends(g, n);
-    let belows = values_below(&counts, 2 * n);
-    let mut numbers = [0i32; ENDS];
-    let mut p = 0;
-    while p < 2 * n {
+    let belows = values_below(&counts[..2 * n]);
+    let mut numbers = [0; ENDS];
+    for p in 0..2 * n {
         numbers[p] = belows[counts[p]] as i32;
-        p += 1;
     }
     numbers
-}
-
-// The first numbers of a list fill the room.
-fn copy(room: &mut [i32], xs: &[i32])
-    requires { length room.old ≤ length xs.now }
-    ensures { Copied room.old room.new xs.now }
-{
-    let mut p = 0;
-    while p < room.len() {
-        room[p] = xs[p];
-        p += 1;
-    }
 }
 
 // Works out the one placing without gaps of a grid with one relation for each pair, and checks it: whether it meets every
@@ -329,13 +216,10 @@ pub fn settle(g: &[u16], n: usize, room: &mut [i32]) -> bool
     ensures { Settled n g.now room.old room.new result }
 {
     let numbers = number_ends(g, n);
-    if some_late(n, &numbers) {
+    if some_late(n, &numbers) || some_missed(g, n, &numbers) {
         return false;
     }
-    if some_missed(g, n, &numbers) {
-        return false;
-    }
-    copy(room, &numbers);
+    room.copy_from_slice(&numbers[..2 * n]);
     true
 }
 
@@ -343,8 +227,5 @@ pub fn settle(g: &[u16], n: usize, room: &mut [i32]) -> bool
 pub fn natural(x: i32) -> u32
     ensures { result ≡ natural_of x }
 {
-    if x < 0 {
-        return 0;
-    }
-    x as u32
+    u32::try_from(x).unwrap_or(0)
 }

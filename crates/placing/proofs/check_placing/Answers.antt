@@ -1,24 +1,27 @@
 -- A placing that is not refused meets every cell exactly if no cell is missed.
-use mathlib.Core.Path.{sym, ap, ◌∙◌}
-use Rattle.grid.specs.Accepted.{judged_number}
+use mathlib.Core.Path.{◌≡◌, sym}
+use mathlib.Core.Bool.{Bool, true, false, not}
+use mathlib.Core.List.{List}
+use Prim.Native.Nat.{ℕ}
+use lib.IntN.{ℤ}
+use Rattle.std.proofs.Common.{Ok}
 use Rattle.grid.proofs.JudgedLaws.{judged_accepted}
+use Rattle.placing.specs.Placing.{at}
+use Rattle.placing.specs.Checking.{check_refusal, CheckSays}
+use Rattle.placing.specs.Settling.{some_missed}
 use Rattle.placing.proofs.CheckLaws.{check_lengths, check_on_time}
 use Rattle.placing.proofs.PlacingLaws.{list_meets, list_misses}
 use native.Mathlib.Omega.{arith}
 use Rattle.placing.proofs.check_placing.Goals as goal
 
+answered : (n : ℕ) (g : List ℕ) (xs : List ℤ) (r : Bool) → check_refusal n g xs ≡ 0 → r ≡ some_missed n g (at xs) → CheckSays n g xs (Ok (not r))
+answered n g xs true z e = (z, list_misses n g xs (sym e))
+answered n g xs false z e = (z, list_meets n g xs (check_on_time n g xs z) (sym e))
+
 pub some_missed-requires : goal.some_missed-requires
 some_missed-requires c =
-    let s = check_lengths c.args.n c.args.g.now c.args.placing.now (judged_accepted _ _ c.judge_check-judged.ensures c.in-Accepted.is) in
+    let s = check_lengths _ _ _ (judged_accepted _ _ c.judge_check.ensures c.in_ok-judge_check.was) in
     (s.few, omega arith, omega arith)
 
-pub returns-in-Refused : goal.returns-in-Refused
-returns-in-Refused c = sym c.judge_check-judged.ensures ∙ ap judged_number c.in-Refused.is
-
-pub returns-then-some_missed : goal.returns-then-some_missed
-returns-then-some_missed c = (judged_accepted _ _ c.judge_check-judged.ensures c.in-Accepted.is, list_misses c.args.n c.args.g.now c.args.placing.now (sym c.some_missed.ensures ∙ c.if-some_missed.true))
-
-pub returns-else-some_missed : goal.returns-else-some_missed
-returns-else-some_missed c =
-    let z = judged_accepted _ _ c.judge_check-judged.ensures c.in-Accepted.is in
-    (z, list_meets c.args.n c.args.g.now c.args.placing.now (check_on_time c.args.n c.args.g.now c.args.placing.now z) (sym c.some_missed.ensures ∙ c.if-some_missed.false))
+pub returns : goal.returns
+returns c = answered _ _ _ _ (judged_accepted _ _ c.judge_check.ensures c.in_ok-judge_check.was) c.some_missed.ensures

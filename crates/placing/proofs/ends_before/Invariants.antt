@@ -4,7 +4,4 @@ use Rattle.placing.specs.Settling.{end_before, count}
 use Rattle.placing.proofs.ends_before.Given as goal
 
 abbrev pub invariant-loop-q : goal.invariant-loop-q
-invariant-loop-q l = (l.q ≤ 2 * l.n) × (l.found ≤ l.q) × (l.found ≡ count l.q (λ z. end_before l.n l.g z l.p))
-
-abbrev pub decreases-loop-q : goal.decreases-loop-q
-decreases-loop-q l = 2 * l.n - l.q
+invariant-loop-q l = (l.found ≤ l.q) × (l.found ≡ count l.q (λ z. end_before l.n l.g z l.p))

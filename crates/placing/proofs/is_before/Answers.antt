@@ -5,12 +5,7 @@ use Prim.Native.Nat.{ℕ}
 use lib.Bits.{bit_and}
 use lib.Dec.{eqb}
 use Rattle.placing.specs.Settling.{end_before}
-use native.Mathlib.Omega.{arith}
-use borrow.Author.Rules.{rules}
 use Rattle.placing.proofs.is_before.Goals as goal
-
-pub get-requires : goal.get-requires
-get-requires c = (search rules, omega arith, omega arith, search rules)
 
 pub returns : goal.returns
 unfolding end_before

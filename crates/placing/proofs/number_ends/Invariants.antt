@@ -7,7 +7,4 @@ use Rattle.placing.proofs.EntryLaws.{Holds}
 use Rattle.placing.proofs.number_ends.Given as goal
 
 abbrev pub invariant-loop-p : goal.invariant-loop-p
-invariant-loop-p l = (length l.numbers ≡ most_ends) × (l.p ≤ 2 * l.n) × Holds (gapless_end l.n l.g) l.numbers l.p
-
-abbrev pub decreases-loop-p : goal.decreases-loop-p
-decreases-loop-p l = 2 * l.n - l.p
+invariant-loop-p l = (length l.numbers ≡ most_ends) × Holds (gapless_end l.n l.g) l.numbers l.p

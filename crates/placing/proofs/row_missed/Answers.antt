@@ -11,12 +11,6 @@ use borrow.Author.Rules.{rules}
 use native.Mathlib.Omega.{arith}
 use Rattle.placing.proofs.row_missed.Goals as goal
 
-pub loop-j-init : goal.loop-j-init
-loop-j-init c = (search rules, λ i h. absurd (omega arith))
-
-pub has-requires : goal.has-requires
-has-requires c = subst (λ (r : ℕ). r < 13) (sym c.relation_at.ensures) (relation_at_lt (at c.args.placing.now) c.args.i c.loop-j.j)
-
 pub returns-then-not-has : goal.returns-then-not-has
 returns-then-not-has c =
     let e = ap not (sym (ap₂ (λ (a r : ℕ). member r a) c.get.ensures c.relation_at.ensures) ∙ sym c.has.ensures ∙ c.if-not-has.true) in
@@ -25,9 +19,9 @@ returns-then-not-has c =
 pub loop-j-preserved : goal.loop-j-preserved
 loop-j-preserved c =
     let e = ap not (sym (ap₂ (λ (a r : ℕ). member r a) c.get.ensures c.relation_at.ensures) ∙ sym c.has.ensures ∙ c.if-not-has.false) in
-    (search rules, none_more (missed c.args.n c.args.g.now (at c.args.placing.now) c.args.i) c.loop-j.j c.loop-j.invariant.1 e)
+    none_more (missed c.args.n c.args.g.now (at c.args.placing.now) c.args.i) c.loop-j.j c.loop-j.invariant e
 
 pub returns : goal.returns
 returns c =
     let e : c.loop-j.j ≡ c.args.n = omega arith in
-    sym (some_no c.args.n (missed c.args.n c.args.g.now (at c.args.placing.now) c.args.i) (subst (NoneBelow (missed c.args.n c.args.g.now (at c.args.placing.now) c.args.i)) e c.loop-j.invariant.1))
+    sym (some_no c.args.n (missed c.args.n c.args.g.now (at c.args.placing.now) c.args.i) (subst (NoneBelow (missed c.args.n c.args.g.now (at c.args.placing.now) c.args.i)) e c.loop-j.invariant))

@@ -5,7 +5,4 @@ use Rattle.placing.specs.Settling.{missed}
 use Rattle.placing.proofs.row_missed.Given as goal
 
 abbrev pub invariant-loop-j : goal.invariant-loop-j
-invariant-loop-j l = (l.j ≤ l.n) × NoneBelow (missed l.n l.g (at l.placing) l.i) l.j
-
-abbrev pub decreases-loop-j : goal.decreases-loop-j
-decreases-loop-j l = l.n - l.j
+invariant-loop-j l = NoneBelow (missed l.n l.g (at l.placing) l.i) l.j

@@ -5,7 +5,4 @@ use Rattle.placing.specs.Checking.{late}
 use Rattle.placing.proofs.some_late.Given as goal
 
 abbrev pub invariant-loop-i : goal.invariant-loop-i
-invariant-loop-i l = (l.i ≤ l.n) × NoneBelow (late (at l.placing)) l.i
-
-abbrev pub decreases-loop-i : goal.decreases-loop-i
-decreases-loop-i l = l.n - l.i
+invariant-loop-i l = NoneBelow (late (at l.placing)) l.i

@@ -7,16 +7,10 @@ use borrow.Author.Rules.{rules}
 use native.Mathlib.Omega.{arith}
 use Rattle.placing.proofs.some_missed.Goals as goal
 
-pub loop-i-init : goal.loop-i-init
-loop-i-init c = (search rules, λ i h. absurd (omega arith))
-
 pub returns-then-row_missed : goal.returns-then-row_missed
 returns-then-row_missed c = sym (some_yes c.args.n (row_missed c.args.n c.args.g.now (at c.args.placing.now)) c.loop-i.i (search rules) (sym c.row_missed.ensures ∙ c.if-row_missed.true))
-
-pub loop-i-preserved : goal.loop-i-preserved
-loop-i-preserved c = (search rules, none_more (row_missed c.args.n c.args.g.now (at c.args.placing.now)) c.loop-i.i c.loop-i.invariant.1 (sym c.row_missed.ensures ∙ c.if-row_missed.false))
 
 pub returns : goal.returns
 returns c =
     let e : c.loop-i.i ≡ c.args.n = omega arith in
-    sym (some_no c.args.n (row_missed c.args.n c.args.g.now (at c.args.placing.now)) (subst (NoneBelow (row_missed c.args.n c.args.g.now (at c.args.placing.now))) e c.loop-i.invariant.1))
+    sym (some_no c.args.n (row_missed c.args.n c.args.g.now (at c.args.placing.now)) (subst (NoneBelow (row_missed c.args.n c.args.g.now (at c.args.placing.now))) e c.loop-i.invariant))
