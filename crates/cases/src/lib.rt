@@ -8,58 +8,35 @@ ghost use Rattle.std.specs.Io.KnownBytes.{Appends, Consumes, IsAtEnd};
 use std::io;
 use std::io::{Read, Write};
 
-// A byte in more bits, and that it is at most 255, so that sums of bytes fit.
-fn wide(x: u8) -> u32
-    ensures { result ≤ 255 }
-{
-    x as u32
-}
-
-fn small(x: u8) -> u16
-    ensures { result ≤ 255 }
-{
-    x as u16
-}
-
 pub fn read16(b: &[u8], at: usize) -> u16
     requires { at + 2 ≤ length b.now }
 {
-    small(b[at]) + small(b[at + 1]) * 256
+    u16::from_le_bytes([b[at], b[at + 1]])
 }
 
 pub fn read32(b: &[u8], at: usize) -> u32
     requires { at + 4 ≤ length b.now }
 {
-    wide(b[at]) + wide(b[at + 1]) * 256 + wide(b[at + 2]) * 65536 + wide(b[at + 3]) * 16777216
-}
-
-pub fn write8(out: &mut [u8], at: usize, x: u8)
-    requires { at + 1 ≤ length out.old }
-{
-    out[at] = x;
+    u32::from_le_bytes([b[at], b[at + 1], b[at + 2], b[at + 3]])
 }
 
 pub fn write16(out: &mut [u8], at: usize, x: u16)
     requires { at + 2 ≤ length out.old }
 {
-    out[at] = (x % 256) as u8;
-    out[at + 1] = (x / 256 % 256) as u8;
+    out[at..at + 2].copy_from_slice(&x.to_le_bytes());
 }
 
 pub fn write32(out: &mut [u8], at: usize, x: u32)
     requires { at + 4 ≤ length out.old }
 {
-    out[at] = (x % 256) as u8;
-    out[at + 1] = (x / 256 % 256) as u8;
-    out[at + 2] = (x / 65536 % 256) as u8;
-    out[at + 3] = (x / 16777216 % 256) as u8;
+    out[at..at + 4].copy_from_slice(&x.to_le_bytes());
 }
 
 // Writes what kind of answer came, and its number.
 pub fn write_kind(out: &mut [u8], kind: u8, value: u32)
     requires { 5 ≤ length out.old }
 {
-    write8(out, 0, kind);
+    out[0] = kind;
     write32(out, 1, value);
 }
 
@@ -67,10 +44,9 @@ pub fn write_kind(out: &mut [u8], kind: u8, value: u32)
 pub fn read16s(bytes: &[u8], cells: &mut [u16])
     requires { 2 * length cells.old ≤ length bytes.now }
 {
-    let mut k = 0;
-    while k < cells.len() {
-        cells[k] = read16(bytes, 2 * k);
-        k += 1;
+    let (pairs, _) = bytes.as_chunks::<2>();
+    for (cell, pair) in cells.iter_mut().zip(pairs) {
+        *cell = u16::from_le_bytes(*pair);
     }
 }
 
@@ -78,10 +54,9 @@ pub fn read16s(bytes: &[u8], cells: &mut [u16])
 pub fn write16s(out: &mut [u8], at: usize, cells: &[u16])
     requires { at + 2 * length cells.now ≤ length out.old }
 {
-    let mut k = 0;
-    while k < cells.len() {
-        write16(out, at + 2 * k, cells[k]);
-        k += 1;
+    let (pairs, _) = out[at..].as_chunks_mut::<2>();
+    for (pair, cell) in pairs.iter_mut().zip(cells) {
+        *pair = cell.to_le_bytes();
     }
 }
 
