@@ -1,12 +1,43 @@
-// What the programs of the gate share: numbers in bytes, low byte first, and whole reads and writes. What they write is compared
-// with stored answers, so the contracts here say only that nothing lies past a room.
+// What the programs of the gate share: reading cases, answering each, and writing the answers. Numbers stand in bytes, low byte
+// first. What they write is compared with stored answers.
 #![tactic(auto)]
 
-ghost use Rattle.std.specs.Prelude.{◌+◌, ◌*◌, ◌≤◌, ◌≡◌, true, false, Ok, OnOk, length, take};
+ghost use Rattle.std.specs.Prelude.{◌+◌, ◌*◌, ◌≤◌, ◌≡◌, ◌∷◌, ◌++◌, true, false, Ok, OnOk, length};
+ghost use Rattle.std.specs.Int.{w32, to_le_bytes};
 ghost use Rattle.std.specs.Io.KnownBytes.{Appends, Consumes, IsAtEnd};
+ghost use Rattle.refusal.specs.Numbers.{number_of};
 
+use refusal::Refusal;
 use std::io;
 use std::io::{Read, Write};
+
+// At most so many cases are answered.
+const MOST: usize = 100000;
+
+// What kind of answer came, and its number.
+#[derive(Clone, Copy)]
+pub struct Answer {
+    pub kind: u8,
+    pub number: u32,
+}
+
+impl Answer {
+    pub fn refused(why: Refusal) -> Answer
+        ensures { (result.kind ≡ 3) × (result.number ≡ number_of why) }
+    {
+        Answer {
+            kind: 3,
+            number: refusal::number_of(why) as u32,
+        }
+    }
+
+    pub fn to_bytes(self) -> [u8; 5]
+        ensures { result ≡ self.kind ∷ to_le_bytes w32 self.number }
+    {
+        let [a, b, c, d] = self.number.to_le_bytes();
+        [self.kind, a, b, c, d]
+    }
+}
 
 pub fn read16(b: &[u8], at: usize) -> u16
     requires { at + 2 ≤ length b.now }
@@ -20,26 +51,6 @@ pub fn read32(b: &[u8], at: usize) -> u32
     u32::from_le_bytes([b[at], b[at + 1], b[at + 2], b[at + 3]])
 }
 
-pub fn write16(out: &mut [u8], at: usize, x: u16)
-    requires { at + 2 ≤ length out.old }
-{
-    out[at..at + 2].copy_from_slice(&x.to_le_bytes());
-}
-
-pub fn write32(out: &mut [u8], at: usize, x: u32)
-    requires { at + 4 ≤ length out.old }
-{
-    out[at..at + 4].copy_from_slice(&x.to_le_bytes());
-}
-
-// Writes what kind of answer came, and its number.
-pub fn write_kind(out: &mut [u8], kind: u8, value: u32)
-    requires { 5 ≤ length out.old }
-{
-    out[0] = kind;
-    write32(out, 1, value);
-}
-
 // Fills the cells from the bytes.
 pub fn read16s(bytes: &[u8], cells: &mut [u16])
     requires { 2 * length cells.old ≤ length bytes.now }
@@ -50,36 +61,46 @@ pub fn read16s(bytes: &[u8], cells: &mut [u16])
     }
 }
 
-// Writes the cells from a place on.
-pub fn write16s(out: &mut [u8], at: usize, cells: &[u16])
-    requires { at + 2 * length cells.now ≤ length out.old }
+// Writes the cells to the front of the room.
+pub fn write16s(out: &mut [u8], cells: &[u16])
+    requires { 2 * length cells.now ≤ length out.old }
 {
-    let (pairs, _) = out[at..].as_chunks_mut::<2>();
+    let (pairs, _) = out.as_chunks_mut::<2>();
     for (pair, cell) in pairs.iter_mut().zip(cells) {
         *pair = cell.to_le_bytes();
     }
 }
 
-// Reads n bytes into the front of the room: whether all came. They did not where the room is shorter, and then nothing is read,
-// or where the input ends first. A read that fails ends it with its error.
-pub fn receive<R: Read>(reader: &mut R, room: &mut [u8], n: usize) -> io::Result<bool>
-    ensures fits { result ≡ Ok true → n ≤ length room.new }
-    ensures all { result ≡ Ok true → Consumes (R.remaining reader.old) (R.remaining reader.new) (take n room.new) }
-    ensures short { result ≡ Ok false → n ≤ length room.new → IsAtEnd (R.remaining reader.new) }
+// Fills the room from the input: whether it was filled, which it was not where the input ends first. A read that fails ends it
+// with its error.
+pub fn receive<R: Read>(reader: &mut R, room: &mut [u8]) -> io::Result<bool>
+    ensures all { result ≡ Ok true → Consumes (R.remaining reader.old) (R.remaining reader.new) room.new }
+    ensures short { result ≡ Ok false → IsAtEnd (R.remaining reader.new) }
 {
-    if room.len() < n {
-        return Ok(false);
-    }
-    let got = desk::read_sheet(reader, &mut room[..n])?;
-    Ok(got == n)
+    let got = desk::read_sheet(reader, room)?;
+    Ok(got == room.len())
 }
 
-// Writes the first n bytes of the room, or nothing where it is shorter. A write that fails ends it with its error.
-pub fn send<W: Write>(writer: &mut W, room: &[u8], n: usize) -> io::Result<()>
-    ensures written { OnOk result (n ≤ length room.now → Appends (W.contents writer.old) (W.contents writer.new) (take n room.now)) }
+// Writes an answer and what comes with it. A write that fails ends it with its error.
+pub fn send<W: Write>(writer: &mut W, answer: Answer, rest: &[u8]) -> io::Result<()>
+    ensures written { OnOk result (Appends (W.contents writer.old) (W.contents writer.new) ((answer.kind ∷ to_le_bytes w32 answer.number) ++ rest.now)) }
 {
-    if n <= room.len() {
-        writer.write_all(&room[..n])?;
+    writer.write_all(&answer.to_bytes())?;
+    writer.write_all(rest)
+}
+
+// Answers one case after the other, until there is none: `answered` says whether there was one.
+pub fn answer_all<R: Read, W: Write, F: FnMut(&mut R, &mut W) -> io::Result<bool>>(
+    reader: &mut R,
+    writer: &mut W,
+    mut answered: F,
+) -> io::Result<()>
+    requires { F.IsAlwaysCallable answered }
+{
+    for _ in 0..MOST {
+        if !answered(reader, writer)? {
+            break;
+        }
     }
     Ok(())
 }

@@ -3,8 +3,9 @@
 // cells and the numbers; an answer a kind (0 yes, 1 no, 3 refused) and a refusal's number or 0.
 #![tactic(auto)]
 
-ghost use Rattle.std.specs.Prelude.{◌+◌, ◌*◌, ◌≤◌, length};
+ghost use Rattle.std.specs.Prelude.{◌*◌, ◌≤◌, length};
 
+use cases::Answer;
 use placing::CheckAnswer;
 use std::io;
 use std::io::{Read, Write};
@@ -14,50 +15,25 @@ const CELLS: usize = 1100;
 
 const NUMBERS: usize = 80;
 
-// At most so many cases are answered.
-const MOST: usize = 100000;
-
-// A number of 32 bits with a sign: from 2 ^ 31 on the bits stand for a negative number.
-fn read_signed(b: &[u8], at: usize) -> i32
-    requires { at + 4 ≤ length b.now }
+// Fills the numbers from the bytes.
+fn read_numbers(bytes: &[u8], xs: &mut [i32])
+    requires { 4 * length xs.old ≤ length bytes.now }
 {
-    let x = cases::read32(b, at);
-    if x < 2147483648 {
-        x as i32
-    } else {
-        !((4294967295 - x) as i32)
+    let (fours, _) = bytes.as_chunks::<4>();
+    for (x, four) in xs.iter_mut().zip(fours) {
+        *x = i32::from_le_bytes(*four);
     }
 }
 
-// Fills the numbers from the bytes from a place on.
-fn read_numbers(b: &[u8], at: usize, xs: &mut [i32])
-    requires { at + 4 * length xs.old ≤ length b.now }
-{
-    let mut p = 0;
-    while p < xs.len() {
-        xs[p] = read_signed(b, at + 4 * p);
-        p += 1;
-    }
-}
-
-// Checks the first cells and numbers of the rooms.
-fn check_front(n: usize, g: &[u16], cells: usize, xs: &[i32], numbers: usize) -> CheckAnswer
-    requires { (cells ≤ length g.now) × (numbers ≤ length xs.now) }
-{
-    placing::check_placing(&g[..cells], n, &xs[..numbers])
-}
-
-fn write_answer(out: &mut [u8], answer: CheckAnswer)
-    requires { 5 ≤ length out.old }
-{
+fn told(answer: CheckAnswer) -> Answer {
     match answer {
-        CheckAnswer::Meets => cases::write_kind(out, 0, 0),
-        CheckAnswer::Misses => cases::write_kind(out, 1, 0),
-        CheckAnswer::Refused(r) => cases::write_kind(out, 3, refusal::number_of(r) as u32),
+        CheckAnswer::Meets => Answer { kind: 0, number: 0 },
+        CheckAnswer::Misses => Answer { kind: 1, number: 0 },
+        CheckAnswer::Refused(why) => Answer::refused(why),
     }
 }
 
-// Answers a case of n events with so many cells and numbers: whether its bytes came. Both rooms are filled whole.
+// Answers a case of n events with so many cells and numbers: whether its bytes came.
 fn answered_case<R: Read, W: Write>(
     reader: &mut R,
     writer: &mut W,
@@ -68,45 +44,33 @@ fn answered_case<R: Read, W: Write>(
     requires { (cells ≤ 1100) × (numbers ≤ 80) }
 {
     let mut bytes = [0u8; 2 * CELLS + 4 * NUMBERS];
-    if !cases::receive(reader, &mut bytes, 2 * cells + 4 * numbers)? {
+    if !cases::receive(reader, &mut bytes[..2 * cells + 4 * numbers])? {
         return Ok(false);
     }
     let mut g = [0u16; CELLS];
     cases::read16s(&bytes, &mut g);
     let mut xs = [0i32; NUMBERS];
-    read_numbers(&bytes, 2 * cells, &mut xs);
-    let answer = check_front(n, &g, cells, &xs, numbers);
-    let mut out = [0u8; 5];
-    write_answer(&mut out, answer);
-    cases::send(writer, &out, 5)?;
+    read_numbers(&bytes[2 * cells..], &mut xs);
+    let answer = told(placing::check_placing(&g[..cells], n, &xs[..numbers]));
+    cases::send(writer, answer, &[])?;
     Ok(true)
 }
 
 // Answers one case: whether there was one.
 fn answered<R: Read, W: Write>(reader: &mut R, writer: &mut W) -> io::Result<bool> {
     let mut head = [0u8; 12];
-    if !cases::receive(reader, &mut head, 12)? {
+    if !cases::receive(reader, &mut head)? {
         return Ok(false);
     }
     let n = cases::read32(&head, 0) as usize;
     let cells = cases::read32(&head, 4) as usize;
     let numbers = cases::read32(&head, 8) as usize;
-    if CELLS < cells {
-        return Ok(false);
-    }
-    if NUMBERS < numbers {
+    if CELLS < cells || NUMBERS < numbers {
         return Ok(false);
     }
     answered_case(reader, writer, n, cells, numbers)
 }
 
 fn main(rt: HostRuntime) -> io::Result<()> {
-    let mut input = rt.stdin();
-    let mut output = rt.stdout();
-    for _ in 0..MOST {
-        if !answered(&mut input, &mut output)? {
-            break;
-        }
-    }
-    Ok(())
+    cases::answer_all(&mut rt.stdin(), &mut rt.stdout(), answered)
 }
