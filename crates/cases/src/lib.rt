@@ -2,7 +2,7 @@
 // first. What they write is compared with stored answers.
 #![tactic(auto)]
 
-ghost use Rattle.std.specs.Prelude.{◌+◌, ◌*◌, ◌≤◌, ◌≡◌, ◌∷◌, ◌++◌, true, false, Ok, OnOk, length};
+ghost use Rattle.std.specs.Prelude.{◌*◌, ◌%◌, ◌^◌, ◌≤◌, ◌≡◌, ◌∷◌, ◌++◌, true, false, Ok, OnOk, length};
 ghost use Rattle.std.specs.Int.{w32, to_le_bytes};
 ghost use Rattle.std.specs.Io.KnownBytes.{Appends, Consumes, IsAtEnd};
 ghost use Rattle.refusal.specs.Numbers.{number_of};
@@ -39,16 +39,11 @@ impl Answer {
     }
 }
 
-pub fn read16(b: &[u8], at: usize) -> u16
-    requires { at + 2 ≤ length b.now }
+// The low 32 bits, of a number that is far below 2 to the power 32.
+pub fn low32(n: usize) -> u32
+    ensures { result ≡ n % 2 ^ 32 }
 {
-    u16::from_le_bytes([b[at], b[at + 1]])
-}
-
-pub fn read32(b: &[u8], at: usize) -> u32
-    requires { at + 4 ≤ length b.now }
-{
-    u32::from_le_bytes([b[at], b[at + 1], b[at + 2], b[at + 3]])
+    (n % 4294967296) as u32
 }
 
 // Fills the cells from the bytes.
@@ -79,6 +74,19 @@ pub fn receive<R: Read>(reader: &mut R, room: &mut [u8]) -> io::Result<bool>
 {
     let got = desk::read_sheet(reader, room)?;
     Ok(got == room.len())
+}
+
+// The next N numbers of the input, of 32 bits each: none where it ends first.
+pub fn receive_numbers<R: Read, const N: usize>(reader: &mut R) -> io::Result<Option<[u32; N]>> {
+    let mut fours = [[0u8; 4]; N];
+    if !receive(reader, fours.as_flattened_mut())? {
+        return Ok(None);
+    }
+    let mut numbers = [0u32; N];
+    for (number, four) in numbers.iter_mut().zip(fours.iter()) {
+        *number = u32::from_le_bytes(*four);
+    }
+    Ok(Some(numbers))
 }
 
 // Writes an answer and what comes with it. A write that fails ends it with its error.

@@ -33,42 +33,26 @@ fn told(answer: CheckAnswer) -> Answer {
     }
 }
 
-// Answers a case of n events with so many cells and numbers: whether its bytes came.
-fn answered_case<R: Read, W: Write>(
-    reader: &mut R,
-    writer: &mut W,
-    n: usize,
-    cells: usize,
-    numbers: usize,
-) -> io::Result<bool>
-    requires { (cells ≤ 1100) × (numbers ≤ 80) }
-{
+// Answers one case: whether there was one.
+fn answered<R: Read, W: Write>(reader: &mut R, writer: &mut W) -> io::Result<bool> {
+    let Some(head) = cases::receive_numbers::<_, 3>(reader)? else {
+        return Ok(false);
+    };
+    let [n, cells, numbers] = head.map(|x| x as usize);
+    if CELLS < cells || NUMBERS < numbers {
+        return Ok(false);
+    }
     let mut bytes = [0u8; 2 * CELLS + 4 * NUMBERS];
     if !cases::receive(reader, &mut bytes[..2 * cells + 4 * numbers])? {
         return Ok(false);
     }
     let mut g = [0u16; CELLS];
-    cases::read16s(&bytes, &mut g);
+    cases::read16s(&bytes, &mut g[..cells]);
     let mut xs = [0i32; NUMBERS];
-    read_numbers(&bytes[2 * cells..], &mut xs);
+    read_numbers(&bytes[2 * cells..], &mut xs[..numbers]);
     let answer = told(placing::check_placing(&g[..cells], n, &xs[..numbers]));
     cases::send(writer, answer, &[])?;
     Ok(true)
-}
-
-// Answers one case: whether there was one.
-fn answered<R: Read, W: Write>(reader: &mut R, writer: &mut W) -> io::Result<bool> {
-    let mut head = [0u8; 12];
-    if !cases::receive(reader, &mut head)? {
-        return Ok(false);
-    }
-    let n = cases::read32(&head, 0) as usize;
-    let cells = cases::read32(&head, 4) as usize;
-    let numbers = cases::read32(&head, 8) as usize;
-    if CELLS < cells || NUMBERS < numbers {
-        return Ok(false);
-    }
-    answered_case(reader, writer, n, cells, numbers)
 }
 
 fn main(rt: HostRuntime) -> io::Result<()> {

@@ -22,8 +22,9 @@ fn answered<R: Read, W: Write>(reader: &mut R, writer: &mut W) -> io::Result<boo
     if !cases::receive(reader, &mut case)? {
         return Ok(false);
     }
-    let a = cases::read16(&case, 0);
-    let b = cases::read16(&case, 2);
+    let mut sets = [0u16; 2];
+    cases::read16s(&case, &mut sets);
+    let [a, b] = sets;
     let answers = [
         bytes_of(relation::converse(a)),
         bytes_of(relation::compose(a, b)),
