@@ -2,25 +2,17 @@
 // `report`; this program only reads and writes.
 #![tactic(auto)]
 
-use desk::ROOM;
-use report::PRINTED;
+use report::{ALLOWANCE, PRINTED};
 use std::io;
-use std::io::Write;
 
 fn main(rt: HostRuntime) -> io::Result<()> {
-    let mut sheet = [0u8; ROOM];
-    let n = match desk::read_sheet(&mut rt.stdin(), &mut sheet) {
-        Ok(n) => n,
-        Err(e) => {
-            let _ = eprintln!(rt; "place: the sheet could not be read");
-            return Err(e);
-        }
-    };
     let mut room = [0u8; PRINTED];
-    let len = report::place_report(&sheet[..n], report::ALLOWANCE, &mut room);
-    let written = rt.stdout().write_all(&room[..len]);
-    if written.is_err() {
-        let _ = eprintln!(rt; "place: the answer could not be written");
-    }
-    written
+    desk::answer(
+        &mut rt.stdin(),
+        &mut rt.stdout(),
+        &rt,
+        "place",
+        &mut room,
+        |sheet, room| report::place_report(sheet, ALLOWANCE, room),
+    )
 }

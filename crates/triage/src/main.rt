@@ -2,25 +2,17 @@
 // program only reads and writes.
 #![tactic(auto)]
 
-use desk::ROOM;
-use report::PRINTED;
+use report::{ALLOWANCE, PRINTED};
 use std::io;
-use std::io::Write;
 
 fn main(rt: HostRuntime) -> io::Result<()> {
-    let mut sheet = [0u8; ROOM];
-    let n = match desk::read_sheet(&mut rt.stdin(), &mut sheet) {
-        Ok(n) => n,
-        Err(e) => {
-            let _ = eprintln!(rt; "triage: the sheet could not be read");
-            return Err(e);
-        }
-    };
     let mut room = [0u8; PRINTED];
-    let len = report::triage_report(&sheet[..n], report::ALLOWANCE, &mut room);
-    let written = rt.stdout().write_all(&room[..len]);
-    if written.is_err() {
-        let _ = eprintln!(rt; "triage: the answer could not be written");
-    }
-    written
+    desk::answer(
+        &mut rt.stdin(),
+        &mut rt.stdout(),
+        &rt,
+        "triage",
+        &mut room,
+        |sheet, room| report::triage_report(sheet, ALLOWANCE, room),
+    )
 }
