@@ -2,8 +2,17 @@
 // program only reads and writes.
 #![tactic(auto)]
 
+ghost use Rattle.std.specs.Prelude.{◌≤◌};
+ghost use Rattle.report.specs.Report.{most_printed};
+
 use report::{ALLOWANCE, PRINTED};
 use std::io;
+
+fn printed(sheet: &[u8], room: &mut [u8]) -> usize
+    ensures { result ≤ most_printed }
+{
+    report::triage_report(sheet, ALLOWANCE, room)
+}
 
 fn main(rt: HostRuntime) -> io::Result<()> {
     let mut room = [0u8; PRINTED];
@@ -13,6 +22,6 @@ fn main(rt: HostRuntime) -> io::Result<()> {
         &rt,
         "triage",
         &mut room,
-        |sheet, room| report::triage_report(sheet, ALLOWANCE, room),
+        printed,
     )
 }
