@@ -10,8 +10,8 @@ use Rattle.grid.specs.Accepted.{judged_number}
 use Rattle.std.proofs.Common.{Result, Ok, Err}
 use Rattle.refusal.proofs.AnsweredLaws.{first_here}
 
-pub judged_accepted : {A : Type 0} (x : A) (a : ℕ) (j : Result A Refusal) → judged_number j ≡ a → j ≡ Ok x → a ≡ 0
-judged_accepted x a j e f = sym e ∙ ap judged_number f
+pub judged_accepted : {A : Type 0} {x : A} (a : ℕ) (j : Result A Refusal) → judged_number j ≡ a → j ≡ Ok x → a ≡ 0
+judged_accepted a j e f = sym e ∙ ap judged_number f
 
 -- a refusal is the first
 pub judged_refused : (a b : ℕ) (j : Result (Unit {0}) Refusal) (r : Refusal) → judged_number j ≡ a → j ≡ Err r → number_of r ≡ first_of a b

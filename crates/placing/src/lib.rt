@@ -1,7 +1,7 @@
 // Placings: the checker, and the one placing without gaps of a scenario.
 #![tactic(auto)]
 
-ghost use Rattle.std.specs.Prelude.{◌≡◌, ◌+◌, ◌*◌, ◌≤◌, ◌<◌, length};
+ghost use Rattle.std.specs.Prelude.{IfOk, ◌≡◌, ◌+◌, ◌*◌, ◌≤◌, ◌<◌, length};
 ghost use Rattle.std.specs.Int.Signed.{lt_z};
 ghost use Rattle.relation.specs.Comparing.{more, rel_by, rel_from};
 ghost use Rattle.grid.specs.Accepted.{judged_number};
@@ -10,7 +10,7 @@ ghost use Rattle.placing.specs.Checking.{length_refusal, some_late, rest_refusal
 ghost use Rattle.placing.specs.Settling.{earlier, end_before, ends_before, relation_at, row_missed, some_missed, Settled};
 ghost use Rattle.placing.specs.Steps.{order_of, most_ends, Counts, Belows, Numbers};
 
-use grid::EVENTS;
+use grid::{EVENTS, Grid};
 use refusal::Refusal;
 use std::cmp::Ordering::{self, Equal, Greater, Less};
 
@@ -24,36 +24,39 @@ static EARLIER: [[u16; 2]; 2] = [[2581, 8181], [1, 341]];
 pub fn check_placing(g: &[u16], n: usize, placing: &[i32]) -> Result<bool, Refusal>
     ensures { CheckSays n g.now placing.now result }
 {
-    judge_check(g, n, placing)?;
-    Ok(!some_missed(g, n, placing))
+    let grid = judged(g, n, placing)?;
+    Ok(!some_missed(grid, placing))
 }
 
-// Refusals 1, 2 and 6 of a grid and a placing, or room for one, of so many numbers.
-pub fn judge_lengths(g: &[u16], n: usize, numbers: usize) -> Result<(), Refusal>
-    ensures { judged_number result ≡ length_refusal n g.now numbers }
+// A grid of n events with a placing, or room for one, of so many numbers; else refusal 1, 2 or 6.
+pub fn sized<'a>(g: &'a [u16], n: usize, numbers: usize) -> Result<Grid<'a>, Refusal>
+    ensures refusal { judged_number result ≡ length_refusal n g.entry.now numbers }
+    ensures same { IfOk result (λ x. (x.n ≡ n) × (x.cells ≡ g.entry)) }
 {
-    grid::judge_size(g, n)?;
+    let grid = Grid::sized(g, n)?;
     if numbers != 2 * n {
         return Err(Refusal::PlacingLength);
     }
-    Ok(())
+    Ok(grid)
 }
 
-// Refusals 1, 2, 6, 3, 4, 5 and 7, in this order.
-fn judge_check(g: &[u16], n: usize, placing: &[i32]) -> Result<(), Refusal>
-    ensures { judged_number result ≡ check_refusal n g.now placing.now }
+// A grid of n events and a placing that can be checked; else refusal 1, 2, 6, 3, 4, 5 or 7, in this order.
+fn judged<'a>(g: &'a [u16], n: usize, placing: &[i32]) -> Result<Grid<'a>, Refusal>
+    ensures refusal { judged_number result ≡ check_refusal n g.entry.now placing.now }
+    ensures same { IfOk result (λ x. (x.n ≡ n) × (x.cells ≡ g.entry)) }
 {
-    judge_lengths(g, n, placing.len())?;
-    judge_sized(g, n, placing)
+    let grid = sized(g, n, placing.len())?;
+    judge_rest(grid, placing)?;
+    Ok(grid)
 }
 
-// Refusals 3, 4, 5 and 7 of a grid and a placing of the right lengths.
-fn judge_sized(g: &[u16], n: usize, placing: &[i32]) -> Result<(), Refusal>
-    requires { (n ≤ 32) × (length g.now ≡ n * n) × (2 * n ≤ length placing.now) }
-    ensures { judged_number result ≡ rest_refusal n g.now placing.now }
+// Refusals 3, 4, 5 and 7 of a grid and a placing of its length.
+fn judge_rest(grid: Grid, placing: &[i32]) -> Result<(), Refusal>
+    requires { 2 * grid.n ≤ length placing.now }
+    ensures { judged_number result ≡ rest_refusal grid.entry.n grid.entry.cells.now placing.now }
 {
-    grid::judge_cells(g, n)?;
-    if some_late(n, placing) {
+    grid.judge_cells()?;
+    if some_late(grid.n, placing) {
         return Err(Refusal::StartNotBeforeEnd);
     }
     Ok(())
@@ -116,12 +119,12 @@ fn relation_at(placing: &[i32], i: usize, j: usize) -> usize
 }
 
 // Some cell of row i has not the relation of its events.
-fn row_missed(g: &[u16], n: usize, placing: &[i32], i: usize) -> bool
-    requires { (n ≤ 32) × (i < n) × (n * n ≤ length g.now) × (2 * n ≤ length placing.now) }
-    ensures { result ≡ row_missed n g.now (at placing.now) i }
+fn row_missed(grid: Grid, placing: &[i32], i: usize) -> bool
+    requires { (i < grid.n) × (2 * grid.n ≤ length placing.now) }
+    ensures { result ≡ row_missed grid.entry.n grid.entry.cells.now (at placing.now) i }
 {
-    for j in 0..n {
-        if !relation::has(grid::get(g, n, i, j), relation_at(placing, i, j)) {
+    for j in 0..grid.n {
+        if !relation::has(grid.get(i, j), relation_at(placing, i, j)) {
             return true;
         }
     }
@@ -129,12 +132,12 @@ fn row_missed(g: &[u16], n: usize, placing: &[i32], i: usize) -> bool
 }
 
 // Some cell has not the relation of its events.
-fn some_missed(g: &[u16], n: usize, placing: &[i32]) -> bool
-    requires { (n ≤ 32) × (n * n ≤ length g.now) × (2 * n ≤ length placing.now) }
-    ensures { result ≡ some_missed n g.now (at placing.now) }
+fn some_missed(grid: Grid, placing: &[i32]) -> bool
+    requires { 2 * grid.n ≤ length placing.now }
+    ensures { result ≡ some_missed grid.entry.n grid.entry.cells.now (at placing.now) }
 {
-    for i in 0..n {
-        if row_missed(g, n, placing, i) {
+    for i in 0..grid.n {
+        if row_missed(grid, placing, i) {
             return true;
         }
     }
@@ -150,21 +153,21 @@ fn earlier(e: usize, f: usize) -> u16
 }
 
 // End p is before end q, by the cell of their events.
-fn is_before(g: &[u16], n: usize, p: usize, q: usize) -> bool
-    requires { (n ≤ 32) × (p < 2 * n) × (q < 2 * n) × (n * n ≤ length g.now) }
-    ensures { result ≡ end_before n g.now p q }
+fn is_before(grid: Grid, p: usize, q: usize) -> bool
+    requires { (p < 2 * grid.n) × (q < 2 * grid.n) }
+    ensures { result ≡ end_before grid.entry.n grid.entry.cells.now p q }
 {
-    grid::get(g, n, p / 2, q / 2) & earlier(p % 2, q % 2) != 0
+    grid.get(p / 2, q / 2) & earlier(p % 2, q % 2) != 0
 }
 
 // How many ends are before end p.
-fn ends_before(g: &[u16], n: usize, p: usize) -> usize
-    requires { (n ≤ 32) × (p < 2 * n) × (n * n ≤ length g.now) }
-    ensures { result ≡ ends_before n g.now p }
+fn ends_before(grid: Grid, p: usize) -> usize
+    requires { p < 2 * grid.n }
+    ensures { result ≡ ends_before grid.entry.n grid.entry.cells.now p }
 {
     let mut found = 0;
-    for q in 0..2 * n {
-        if is_before(g, n, q, p) {
+    for q in 0..2 * grid.n {
+        if is_before(grid, q, p) {
             found += 1;
         }
     }
@@ -172,13 +175,12 @@ fn ends_before(g: &[u16], n: usize, p: usize) -> usize
 }
 
 // How many ends are before each end.
-fn count_ends(g: &[u16], n: usize) -> [usize; ENDS]
-    requires { (n ≤ 32) × (n * n ≤ length g.now) }
-    ensures { Counts n g.now result }
+fn count_ends(grid: Grid) -> [usize; ENDS]
+    ensures { Counts grid.entry.n grid.entry.cells.now result }
 {
     let mut counts = [0; ENDS];
-    for p in 0..2 * n {
-        counts[p] = ends_before(g, n, p);
+    for p in 0..2 * grid.n {
+        counts[p] = ends_before(grid, p);
     }
     counts
 }
@@ -196,14 +198,13 @@ fn values_below(counts: &[usize]) -> [usize; ENDS + 1]
 }
 
 // The number of each end: how many different values are below its own.
-fn number_ends(g: &[u16], n: usize) -> [i32; ENDS]
-    requires { (n ≤ 32) × (n * n ≤ length g.now) }
-    ensures { Numbers n g.now result }
+fn number_ends(grid: Grid) -> [i32; ENDS]
+    ensures { Numbers grid.entry.n grid.entry.cells.now result }
 {
-    let counts = count_ends(g, n);
-    let belows = values_below(&counts[..2 * n]);
+    let counts = count_ends(grid);
+    let belows = values_below(&counts[..2 * grid.n]);
     let mut numbers = [0; ENDS];
-    for p in 0..2 * n {
+    for p in 0..2 * grid.n {
         numbers[p] = belows[counts[p]] as i32;
     }
     numbers
@@ -211,15 +212,15 @@ fn number_ends(g: &[u16], n: usize) -> [i32; ENDS]
 
 // Works out the one placing without gaps of a grid with one relation for each pair, and checks it: whether it meets every
 // cell. Then it is in the room, and otherwise the room is as found.
-pub fn settle(g: &[u16], n: usize, room: &mut [i32]) -> bool
-    requires { (n ≤ 32) × (n * n ≤ length g.now) × (length room.old ≡ 2 * n) }
-    ensures { Settled n g.now room.old room.new result }
+pub fn settle(grid: Grid, room: &mut [i32]) -> bool
+    requires { length room.old ≡ 2 * grid.n }
+    ensures { Settled grid.entry.n grid.entry.cells.now room.old room.new result }
 {
-    let numbers = number_ends(g, n);
-    if some_late(n, &numbers) || some_missed(g, n, &numbers) {
+    let numbers = number_ends(grid);
+    if some_late(grid.n, &numbers) || some_missed(grid, &numbers) {
         return false;
     }
-    room.copy_from_slice(&numbers[..2 * n]);
+    room.copy_from_slice(&numbers[..2 * grid.n]);
     true
 }
 

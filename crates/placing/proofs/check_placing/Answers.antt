@@ -20,8 +20,10 @@ answered n g xs false z e = (z, list_meets n g xs (check_on_time n g xs z) (sym 
 
 pub some_missed-requires : goal.some_missed-requires
 some_missed-requires c =
-    let s = check_lengths _ _ _ (judged_accepted _ _ c.judge_check.ensures c.in_ok-judge_check.was) in
-    (s.few, omega arith, omega arith)
+    let s = check_lengths _ _ _ (judged_accepted _ _ c.judged.ensures.refusal c.in_ok-grid.was) in
+    omega (arith, c.in_ok-grid.ensures.same.0)
 
 pub returns : goal.returns
-returns c = answered _ _ _ _ (judged_accepted _ _ c.judge_check.ensures c.in_ok-judge_check.was) c.some_missed.ensures
+returns c =
+    answered _ _ _ _ (judged_accepted _ _ c.judged.ensures.refusal c.in_ok-grid.was)
+    (rw (c.in_ok-grid.ensures.same.0, c.in_ok-grid.ensures.same.1) at c.some_missed.ensures)

@@ -7,4 +7,4 @@ use Rattle.placing.specs.Steps.{most_ends}
 use Rattle.placing.proofs.count_ends.Given as goal
 
 abbrev pub invariant-loop-p : goal.invariant-loop-p
-invariant-loop-p l = (length l.counts ≡ most_ends) × Filled (ends_before l.n l.g) l.counts l.p
+invariant-loop-p l = (length l.counts ≡ most_ends) × Filled (ends_before l.grid.n l.grid.cells.now) l.counts l.p

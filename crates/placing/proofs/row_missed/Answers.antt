@@ -14,14 +14,14 @@ use Rattle.placing.proofs.row_missed.Goals as goal
 pub returns-then-not-has : goal.returns-then-not-has
 returns-then-not-has c =
     let e = ap not (sym (ap₂ (λ (a r : ℕ). member r a) c.get.ensures c.relation_at.ensures) ∙ sym c.has.ensures ∙ c.if-not-has.true) in
-    sym (some_yes c.args.n (missed c.args.n c.args.g.now (at c.args.placing.now) c.args.i) c.loop-j.j (search rules) e)
+    sym (some_yes c.args.grid.n (missed c.args.grid.n c.args.grid.cells.now (at c.args.placing.now) c.args.i) c.loop-j.j (search rules) e)
 
 pub loop-j-preserved : goal.loop-j-preserved
 loop-j-preserved c =
     let e = ap not (sym (ap₂ (λ (a r : ℕ). member r a) c.get.ensures c.relation_at.ensures) ∙ sym c.has.ensures ∙ c.if-not-has.false) in
-    none_more (missed c.args.n c.args.g.now (at c.args.placing.now) c.args.i) c.loop-j.j c.loop-j.invariant e
+    none_more (missed c.args.grid.n c.args.grid.cells.now (at c.args.placing.now) c.args.i) c.loop-j.j c.loop-j.invariant e
 
 pub returns : goal.returns
 returns c =
-    let e : c.loop-j.j ≡ c.args.n = omega arith in
-    sym (some_no c.args.n (missed c.args.n c.args.g.now (at c.args.placing.now) c.args.i) (subst (NoneBelow (missed c.args.n c.args.g.now (at c.args.placing.now) c.args.i)) e c.loop-j.invariant))
+    let e : c.loop-j.j ≡ c.args.grid.n = omega arith in
+    sym (some_no c.args.grid.n (missed c.args.grid.n c.args.grid.cells.now (at c.args.placing.now) c.args.i) (subst (NoneBelow (missed c.args.grid.n c.args.grid.cells.now (at c.args.placing.now) c.args.i)) e c.loop-j.invariant))

@@ -8,9 +8,9 @@ use native.Mathlib.Omega.{arith}
 use Rattle.placing.proofs.some_missed.Goals as goal
 
 pub returns-then-row_missed : goal.returns-then-row_missed
-returns-then-row_missed c = sym (some_yes c.args.n (row_missed c.args.n c.args.g.now (at c.args.placing.now)) c.loop-i.i (search rules) (sym c.row_missed.ensures ∙ c.if-row_missed.true))
+returns-then-row_missed c = sym (some_yes c.args.grid.n (row_missed c.args.grid.n c.args.grid.cells.now (at c.args.placing.now)) c.loop-i.i (search rules) (sym c.row_missed.ensures ∙ c.if-row_missed.true))
 
 pub returns : goal.returns
 returns c =
-    let e : c.loop-i.i ≡ c.args.n = omega arith in
-    sym (some_no c.args.n (row_missed c.args.n c.args.g.now (at c.args.placing.now)) (subst (NoneBelow (row_missed c.args.n c.args.g.now (at c.args.placing.now))) e c.loop-i.invariant))
+    let e : c.loop-i.i ≡ c.args.grid.n = omega arith in
+    sym (some_no c.args.grid.n (row_missed c.args.grid.n c.args.grid.cells.now (at c.args.placing.now)) (subst (NoneBelow (row_missed c.args.grid.n c.args.grid.cells.now (at c.args.placing.now))) e c.loop-i.invariant))

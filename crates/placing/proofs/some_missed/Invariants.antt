@@ -5,4 +5,4 @@ use Rattle.placing.specs.Settling.{row_missed}
 use Rattle.placing.proofs.some_missed.Given as goal
 
 abbrev pub invariant-loop-i : goal.invariant-loop-i
-invariant-loop-i l = NoneBelow (row_missed l.n l.g (at l.placing)) l.i
+invariant-loop-i l = NoneBelow (row_missed l.grid.n l.grid.cells.now (at l.placing)) l.i

@@ -4,7 +4,7 @@ use Rattle.grid.proofs.JudgedLaws.{judged_accepted}
 use Rattle.placing.specs.Checking.{rest_refusal}
 use Rattle.placing.proofs.CheckLaws.{rest-late, rest-none}
 use borrow.Author.Rules.{rules}
-use Rattle.placing.proofs.judge_sized.Goals as goal
+use Rattle.placing.proofs.judge_rest.Goals as goal
 
 pub returns-in_err-judge_cells : goal.returns-in_err-judge_cells
 unfolding rest_refusal
