@@ -1,6 +1,6 @@
 -- What the sweeps leave is the largest closed grid inside; and the public statement.
 use mathlib.Core.Path.{◌≡◌, refl, ap, sym, ◌∙◌, subst}
-use mathlib.Core.Logic.{◌⊎◌, inl, inr}
+use mathlib.Core.Logic.{inl, inr}
 use mathlib.Core.Bool.{Bool, true, false}
 use mathlib.Core.List.{List}
 use Prim.Native.Nat.{ℕ, ◌*◌, ◌<◌}
@@ -15,7 +15,6 @@ use Rattle.grid.proofs.CellLaws.{cell_cleared, cleared_empty}
 use Rattle.grid.proofs.AcceptedLaws.{accepted-grid}
 use Rattle.theory.specs.Allen.{allen}
 use Rattle.theory.specs.Closing.{Closing}
-use Rattle.theory.specs.Sweeps.{DeadEnd}
 use Rattle.theory.proofs.ClosingLaws.{closing_same}
 use Rattle.theory.proofs.EndLaws.{Kind, contradicts, Largest, EndsAs, refusing, full, emptied, ends_unique}
 use Rattle.theory.proofs.KeepLaws.{Good}
@@ -25,7 +24,7 @@ use Rattle.theory.proofs.QuickRight.{empty_right}
 use Rattle.theory.proofs.GivenLaws.{fine, fair, hole}
 use Rattle.theory.proofs.AllenLaws.{lawful, eq_lawful}
 use Rattle.plain.specs.Answers.{PlainCloses}
-use Rattle.plain.specs.Routes.{Empties, ComesToRest, Sweeps}
+use Rattle.plain.specs.Routes.{Empties, Sweeps}
 use Rattle.plain.specs.declared.End.{End}
 use Rattle.plain.specs.declared.End.TheVariants.{Closed, Contradiction}
 use Rattle.std.proofs.Common.{Result, Ok, Err}

@@ -1,6 +1,4 @@
 -- A refusal comes first; an accepted grid is swept.
-use mathlib.Core.Path.{sym, ◌∙◌, ap}
-use Rattle.grid.specs.Accepted.{judged_number}
 use Rattle.grid.proofs.AcceptedLaws.{accepted-grid}
 use Rattle.grid.proofs.JudgedLaws.{judged_accepted}
 use Rattle.plain.proofs.PlainRight.{closes}

@@ -2,7 +2,7 @@
 use mathlib.Core.Path.{refl, sym, ◌∙◌}
 use Rattle.theory.proofs.AllenLaws.{lawful, past_second}
 use Rattle.theory.proofs.PlainLaws.{cuts_fair, dead_then}
-use Rattle.plain.proofs.RouteLaws.{nothing, then_cut, over_passed, dead_end, shrinks, half-same}
+use Rattle.plain.proofs.RouteLaws.{nothing, then_cut, dead_end, shrinks, half-same}
 use native.Mathlib.Omega.{arith}
 use Rattle.plain.proofs.sweep_over.Goals as goal
 

@@ -6,7 +6,6 @@ use Rattle.std.proofs.lemmas.Result.{err_from_is_err_and}
 use Rattle.theory.proofs.AllenLaws.{lawful}
 use Rattle.theory.proofs.GivenLaws.{fair}
 use Rattle.theory.proofs.PlainLaws.{cuts_fair, dead_then, cuts_trans}
-use Rattle.plain.proofs.RouteLaws.{all-still}
 use Rattle.plain.proofs.sweep_to_rest.Goals as goal
 
 pub loop-changed-init : goal.loop-changed-init
