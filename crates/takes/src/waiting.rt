@@ -45,22 +45,26 @@ impl WaitingList {
         if self.waits[p] {
             return;
         }
-        self.ring[(self.head + self.len) % 1024] = p as u16;
+        // By value, here and in leave: after a store into an array the compiler would read the field again.
+        let len = self.len;
+        self.ring[(self.head + len) % 1024] = p as u16;
         self.waits[p] = true;
-        self.len += 1;
+        self.len = len + 1;
     }
 
     // The first pair leaves, if one waits.
     pub fn leave(&mut self) -> Option<usize>
         ensures { MatchOption result ((self.old ≡ []) × (self.new ≡ [])) (λ p. self.old ≡ p ∷ self.new) }
     {
-        if self.len == 0 {
+        let head = self.head;
+        let len = self.len;
+        if len == 0 {
             return None;
         }
-        let p = self.ring[self.head] as usize;
+        let p = self.ring[head] as usize;
         self.waits[p] = false;
-        self.head = (self.head + 1) % 1024;
-        self.len -= 1;
+        self.head = (head + 1) % 1024;
+        self.len = len - 1;
         Some(p)
     }
 
