@@ -19,6 +19,7 @@ stepped (Err e) g q = dead
 pub record Sees (n : ℕ) (g : List ℕ) (t : Take) : Type 0 where
   pub from : t.i < n
   pub to : t.j < n
+  pub apart : t.i ≡ t.j → ⊥
   pub there : t.there ≡ cell n g t.i t.j
   pub back : t.back ≡ cell n g t.j t.i
 

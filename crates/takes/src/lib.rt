@@ -43,20 +43,33 @@ pub fn write_cut(list: &mut WaitingList, g: &mut [u16], n: usize, a: usize, b: u
     list.join(pair_of(a, b));
 }
 
+// The two events of the cell that cut c in the take of (i, j) cuts.
+fn from_of(i: usize, c: usize) -> usize
+    ensures { result ≡ from_of i c }
+{
+    if c % 2 == 0 { i } else { c / 2 }
+}
+
+fn to_of(j: usize, c: usize) -> usize
+    ensures { result ≡ to_of j c }
+{
+    if c % 2 == 0 { c / 2 } else { j }
+}
+
 // A cut that changes its cell, by its number in the take, and what it leaves. Cut 2 * k is the first at k, 2 * k + 1 the second.
 #[derive(Clone, Copy)]
-pub struct Found {
-    pub at: usize,
-    pub set: u16,
+struct Found {
+    at: usize,
+    set: u16,
 }
 
 // The take of (i, j), with the rows of that cell and of its mirror.
 #[derive(Drop)]
-pub struct Take {
-    pub i: usize,
-    pub j: usize,
-    pub there: Rows,
-    pub back: Rows,
+struct Take {
+    i: usize,
+    j: usize,
+    there: Rows,
+    back: Rows,
 }
 
 impl Take {
@@ -103,43 +116,36 @@ impl Take {
         }
         self.cut_from(g, n, k + c % 2)
     }
-}
 
-// The two events of the cell that cut c in the take of (i, j) cuts.
-fn from_of(i: usize, c: usize) -> usize
-    ensures { result ≡ from_of i c }
-{
-    if c % 2 == 0 { i } else { c / 2 }
-}
-
-fn to_of(j: usize, c: usize) -> usize
-    ensures { result ≡ to_of j c }
-{
-    if c % 2 == 0 { c / 2 } else { j }
-}
-
-// Makes a cut in the take of (i, j).
-fn make_cut(
-    list: &mut WaitingList,
-    g: &mut [u16],
-    n: usize,
-    i: usize,
-    j: usize,
-    cut: Found,
-) -> Result<(), Emptied>
-    requires { (i < n) × (j < n) × (i ≡ j → ⊥) × (cut.at < n * 2) × Held n g.old × Pairs n list.old × Changes n i j g.old cut.at cut.set }
-    ensures step { stepped result g.new list.new ≡ cut_at allen n i j cut.at g.old list.old }
-    ensures pairs { Pairs n list.new }
-{
-    let k = cut.at / 2;
-    if k == i || k == j {
-        return Ok(());
+    // Makes a cut of the take.
+    fn make_cut(
+        &self,
+        list: &mut WaitingList,
+        g: &mut [u16],
+        n: usize,
+        cut: Found,
+    ) -> Result<(), Emptied>
+        requires { Sees n g.old self.now × (cut.at < n * 2) × Held n g.old × Pairs n list.old × Changes n self.now.i self.now.j g.old cut.at cut.set }
+        ensures step { stepped result g.new list.new ≡ cut_at allen n self.now.i self.now.j cut.at g.old list.old }
+        ensures pairs { Pairs n list.new }
+    {
+        let k = cut.at / 2;
+        if k == self.i || k == self.j {
+            return Ok(());
+        }
+        if cut.set == 0 {
+            return Err(Emptied);
+        }
+        write_cut(
+            list,
+            g,
+            n,
+            from_of(self.i, cut.at),
+            to_of(self.j, cut.at),
+            cut.set,
+        );
+        Ok(())
     }
-    if cut.set == 0 {
-        return Err(Emptied);
-    }
-    write_cut(list, g, n, from_of(i, cut.at), to_of(j, cut.at), cut.set);
-    Ok(())
 }
 
 // One take of (i, j). Where nothing is said of i to j, it changes nothing.
@@ -167,7 +173,7 @@ fn take_pair(
     };
     let mut c = 0;
     while let Some(found) = take.next_cut(g, n, c) {
-        make_cut(list, g, n, i, j, found)?;
+        take.make_cut(list, g, n, found)?;
         c = found.at + 1;
     }
     Ok(())

@@ -24,6 +24,7 @@ loop-found-init c = (
   record {
     from = c.requires.0;
     to = c.requires.1;
+    apart = c.requires.2;
     there = c.of.ensures ∙ c.get-set.ensures;
     back = c.of-2.ensures ∙ c.get.ensures;
   },
@@ -48,6 +49,7 @@ loop-found-preserved c =
       record {
         from = c.requires.0;
         to = c.requires.1;
+        apart = c.requires.2;
         there = c.loop-found.invariant.5.there ∙ sym K.pair;
         back = c.loop-found.invariant.5.back ∙ sym K.mirror;
       },
