@@ -73,8 +73,8 @@ struct Take {
 }
 
 impl Take {
-    // The first cut from event k on that changes something. Most cuts change nothing, and this only reads. Both cuts at k are made in
-    // its own row, the first of them turned round: so the rows of (i, j) and of (j, i) serve for all k.
+    // The first cut at this event or a later one that changes something. Most cuts change nothing, and this only reads. Both cuts at k
+    // are made in its own row, the first of them turned round: so the rows of (i, j) and of (j, i) serve for all k.
     fn cut_from(&self, g: &[u16], n: usize, from: usize) -> Option<Found>
         requires { Sees n g.now self.now × (from ≤ n) × Fair allen n g.now }
         ensures { Finds n self.now.i self.now.j g.now (from * 2) result }
