@@ -1,8 +1,8 @@
 -- From the code's answer to the step that it shows.
 use mathlib.Core.Path.{◌≡◌, refl, ◌∙◌, sym, ap, subst}
-use mathlib.Core.Bool.{Bool, true, false}
+use mathlib.Core.Bool.{true, false}
 use mathlib.Core.List.{List, ◌∷◌}
-use Prim.Native.Nat.{ℕ, zero, suc, ◌+◌, ◌*◌, ◌/◌, ◌%◌, ◌≤◌, ◌<◌}
+use Prim.Native.Nat.{ℕ, ◌+◌, ◌*◌, ◌/◌, ◌%◌, ◌≤◌, ◌<◌}
 use native.Mathlib.Omega.{arith}
 use Rattle.std.specs.Prelude.{Option, None, Some, Result, Ok, Err, is_err, IfOk}
 use native.Mathlib.Decide.{ℕ_discrete}

@@ -6,7 +6,7 @@ use borrow.Author.Rules.{rules}
 use native.Mathlib.Omega.{arith}
 use Rattle.theory.specs.Allen.{allen}
 use Rattle.theory.proofs.AllenLaws.{lawful}
-use Rattle.theory.proofs.FairLaws.{fair_good, good_fair}
+use Rattle.theory.proofs.FairLaws.{fair_good}
 use Rattle.theory.proofs.CutsLaws.{cuts-all, cuts-none, cuts-dead, cuts-going, keeps-at}
 use Rattle.takes.proofs.StepsLaws.{all_quiet, is-dead, is-going}
 use Rattle.takes.proofs.take_pair.Goals as goal

@@ -1,6 +1,6 @@
 -- The takes left, from the grid and list as they are, come to the whole run.
 use mathlib.Core.Path.{◌≡◌, ap, sym, ◌∙◌}
-use mathlib.Core.Bool.{false, true}
+use mathlib.Core.Bool.{false}
 use mathlib.Core.List.{◌∷◌}
 use Prim.Native.Nat.{◌+◌, ◌≤◌, ◌<◌}
 use borrow.Author.Rules.{rules}

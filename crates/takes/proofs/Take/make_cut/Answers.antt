@@ -1,5 +1,5 @@
 -- Each answer is one case of the cut.
-use mathlib.Core.Path.{sym, ap, ap₂, ◌∙◌}
+use mathlib.Core.Path.{sym, ap₂, ◌∙◌}
 use Rattle.theory.specs.Quick.{going}
 use Rattle.theory.proofs.CutsLaws.{cut_skip_i, cut_skip_j}
 use Rattle.theory.proofs.LineLaws.{pair_ok, pairs-joins}
