@@ -16,7 +16,6 @@ use Rattle.refusal.proofs.NumberLaws.{number_pos, number_unique}
 use Rattle.grid.specs.Cells.{some_empty}
 use Rattle.grid.specs.Accepted.{Accepted, grid_refusal}
 use Rattle.grid.proofs.AcceptedLaws.{accepted-grid}
-use Rattle.theory.proofs.EndLaws.{pauses}
 use Rattle.theory.proofs.QuickLaws.{takes_of}
 use Rattle.theory.specs.Allen.{allen}
 use Rattle.theory.specs.Line.{all_pairs}

@@ -1,7 +1,6 @@
 -- The cell is cut, and the pair alone waits: the grid was closed, so the takes from there close it.
 use mathlib.Core.Path.{ap, ap₂, ◌∙◌}
-use Rattle.theory.specs.Allen.{allen}
-use Rattle.theory.specs.Line.{pair_of, joins}
+use Rattle.theory.specs.Line.{joins}
 use Rattle.theory.specs.Quick.{run}
 use Rattle.quick.proofs.PairLaws.{cut_fair, closes_by_pair, pair_waits}
 use Rattle.quick.proofs.close_pair.Goals as goal
