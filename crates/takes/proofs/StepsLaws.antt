@@ -3,11 +3,12 @@ use mathlib.Core.Path.{◌≡◌, refl, ◌∙◌, sym, ap, subst}
 use mathlib.Core.Bool.{true, false}
 use mathlib.Core.List.{List, ◌∷◌}
 use Prim.Native.Nat.{ℕ, ◌+◌, ◌*◌, ◌/◌, ◌%◌, ◌≤◌, ◌<◌}
+use Rattle.std.specs.Prelude.{bit_and}
 use native.Mathlib.Omega.{arith}
 use Rattle.std.specs.Prelude.{Option, None, Some, Result, Ok, Err, is_err, IfOk}
 use native.Mathlib.Decide.{ℕ_discrete}
 use borrow.Author.Tests.{eq-eqb, ne_eqb}
-use Rattle.relation.specs.Composition.{converse}
+use Rattle.relation.specs.Composition.{converse, compose}
 use Rattle.grid.specs.Cells.{cell, put_both}
 use Rattle.theory.specs.Fair.{Fair}
 use Rattle.theory.specs.Allen.{allen}
@@ -17,42 +18,63 @@ use Rattle.theory.specs.Cuts.{from_of, to_of, cut_at}
 use Rattle.theory.proofs.QuickLaws.{shrunk-dead, shrunk_written}
 use Rattle.theory.proofs.StepLaws.{turn-still, left-all, left-still, rest, rest-paused}
 use Rattle.theory.proofs.CutsLaws.{first-from, first_via, first_to, second_from, second_via, second-to, cut_skip_i, cut_made, cut-at-still, cuts-going, turned_cut, turned_still, turned_less}
-use Rattle.theory.proofs.AllenLaws.{lawful, past_first, past_second}
+use Rattle.theory.proofs.AllenLaws.{lawful, left_is, past_first, past_second}
 use Rattle.theory.proofs.FairLaws.{fair_good}
-use Rattle.takes.specs.Steps.{stepped, Quiet, Changes, Passes, First, Finds}
+use Rattle.theory.proofs.KeepLaws.{Good}
+use Rattle.takes.specs.Steps.{stepped, Sees, Quiet, Changes, Passes, Finds}
 use Rattle.grid.specs.declared.Emptied.{Emptied}
 use Rattle.takes.specs.declared.Found.{Found}
+use Rattle.takes.specs.declared.Take.{Take}
 
--- the two cuts at k, from what is left in its row
-module _ (n i j k : ℕ) (g : List ℕ) (F : Fair allen n g) (hi : i < n) (hj : j < n) (hk : k < n) (x y : ℕ) where
+-- the two cuts at k, from the two cells in its row and their compositions
+module _ (n : ℕ) (g : List ℕ) (F : Fair allen n g) (t : Take) (S : Sees n g t) (k : ℕ) (hk : k < n) (ki kj x : ℕ) (ei : ki ≡ cell n g k t.i) (ej : kj ≡ cell n g k t.j) where
+  abbrev i : ℕ
+  i = t.i
+
+  abbrev j : ℕ
+  j = t.j
+
   same_place : k * 2 / 2 ≡ k
   same_place = omega arith
 
-  module _ (left : x ≡ cut_to allen (cell n g) k j i) (read : y ≡ cell n g k i) where
-    pub first_quiet : x ≡ y → Quiet n i j g (k * 2)
+  abbrev G : Good allen n g g
+  G = fair_good allen lawful n g F
+
+  module _ (by : x ≡ compose kj t.back) where
+    left_first : bit_and ki x ≡ cut_to allen (cell n g) k j i
+    left_first = left_is n k j i g ki kj t.back x ei ej S.back by
+
+    pub first_quiet : bit_and ki x ≡ ki → Quiet n i j g (k * 2)
     first_quiet e q = go (ℕ_discrete k i)
       where
         go : Dec (k ≡ i) → cut_at allen n i j (k * 2) g q ≡ going g q
         go (yes u) = cut_skip_i allen n i j (k * 2) g q (same_place ∙ u)
         go (no u) =
             cut-at-still allen n i j (k * 2) g q
-            (rw (first-from i j k, first_via i j k, first_to i j k) (turned_still allen lawful n i j k hi hj hk g g (fair_good allen lawful n g F) u (sym left ∙ e ∙ read)))
+            (rw (first-from i j k, first_via i j k, first_to i j k) (turned_still allen lawful n i j k S.from S.to hk g g G u (sym left_first ∙ e ∙ ei)))
 
-    pub first-changes : (x ≡ y → ⊥) → (s : ℕ) → s ≡ converse x → Changes n i j g (k * 2) s
-    first-changes ne s t =
+    pub first-changes : (bit_and ki x ≡ ki → ⊥) → (s : ℕ) → s ≡ converse (bit_and ki x) → Changes n i j g (k * 2) s
+    first-changes ne s r =
+        let turned = λ (u : k * 2 / 2 ≡ i → ⊥). r ∙ ap converse left_first ∙ turned_cut allen lawful n i j k S.from S.to hk g g G (λ z. u (same_place ∙ z)) in
         record {
-          left = λ u. rw (first-from i j k, first_via i j k, first_to i j k) (t ∙ ap converse left ∙ turned_cut allen lawful n i j k hi hj hk g g (fair_good allen lawful n g F) (λ z. u (same_place ∙ z)));
-          less = λ u. rw (first-from i j k, first_to i j k) (λ z. turned_less allen lawful n i j k hi hj hk g g (fair_good allen lawful n g F) (λ m. u (same_place ∙ m)) (λ m. ne (left ∙ m ∙ sym read)) (sym (t ∙ ap converse left ∙ turned_cut allen lawful n i j k hi hj hk g g (fair_good allen lawful n g F) (λ m. u (same_place ∙ m))) ∙ z));
+          left = λ u. rw (first-from i j k, first_via i j k, first_to i j k) (turned u);
+          less = λ u. rw (first-from i j k, first_to i j k) (λ z. turned_less allen lawful n i j k S.from S.to hk g g G (λ m. u (same_place ∙ m)) (λ m. ne (left_first ∙ m ∙ sym ei)) (sym (turned u) ∙ z));
         }
 
-  module _ (left : x ≡ cut_to allen (cell n g) k i j) (read : y ≡ cell n g k j) where
-    pub second_quiet : x ≡ y → Quiet n i j g (k * 2 + 1)
-    second_quiet e q =
-        cut-at-still allen n i j (k * 2 + 1) g q (rw (second_from i j k, second_via i j k, second-to i j k) (sym left ∙ e ∙ read))
+  module _ (by : x ≡ compose ki t.there) where
+    left_second : bit_and kj x ≡ cut_to allen (cell n g) k i j
+    left_second = left_is n k i j g kj ki t.there x ej ei S.there by
 
-    pub second-changes : (x ≡ y → ⊥) → Changes n i j g (k * 2 + 1) x
+    pub second_quiet : bit_and kj x ≡ kj → Quiet n i j g (k * 2 + 1)
+    second_quiet e q =
+        cut-at-still allen n i j (k * 2 + 1) g q (rw (second_from i j k, second_via i j k, second-to i j k) (sym left_second ∙ e ∙ ej))
+
+    pub second-changes : (bit_and kj x ≡ kj → ⊥) → Changes n i j g (k * 2 + 1) (bit_and kj x)
     second-changes ne =
-        record { left = λ u. rw (second_from i j k, second_via i j k, second-to i j k) left; less = λ u. rw (second_from i j k, second-to i j k) (λ e. ne (e ∙ sym read)) }
+        record {
+          left = λ u. rw (second_from i j k, second_via i j k, second-to i j k) left_second;
+          less = λ u. rw (second_from i j k, second-to i j k) (λ e. ne (e ∙ sym ej));
+        }
 
 -- the cuts that change nothing, at first none and then one more
 module _ (n i j : ℕ) (g : List ℕ) (c : ℕ) where
@@ -61,9 +83,6 @@ module _ (n i j : ℕ) (g : List ℕ) (c : ℕ) where
 
   pub passes-more : (r : ℕ) → r < n * 2 → Passes n i j g c r → Quiet n i j g r → Passes n i j g c (r + 1)
   passes-more r h p s = record { from = omega (arith, p.from); within = omega arith; same = λ q. p.same q ∙ cuts-going allen n i j r g q h g q (s q) }
-
-  pub passes-all : (r : ℕ) → n * 2 ≤ r → Passes n i j g c r → Passes n i j g c (n * 2)
-  passes-all r h p = let e : r ≡ n * 2 = omega (arith, p.within) in subst (Passes n i j g c) e p
 
 -- a pair of which nothing is said: its take changes nothing
 module _ (n i j : ℕ) (g : List ℕ) (F : Fair allen n g) (hi : i < n) (hj : j < n) (all : cell n g i j ≡ 8191) where
@@ -90,11 +109,6 @@ module _ (n i j : ℕ) (g : List ℕ) (c : ℕ) (r : Option Found) (f : Finds n 
       go : (o : Option Found) → Finds n i j g (c + 1) o → Passes n i j g c (c + 1) → Finds n i j g c o
       go None p one = on (n * 2) one p
       go (Some w) p one = record { passes = on w.at one p.passes; before = p.before; changes = p.changes }
-
-pub odd_found : (n i j : ℕ) (g : List ℕ) (c set : ℕ) → c % 2 ≡ 1 → c < n * 2 → Changes n i j g (c / 2 * 2 + 1) set → First n i j g c c set
-odd_found n i j g c set h l k =
-    let b : c / 2 * 2 + 1 ≡ c = omega arith in
-    record { passes = passes_none n i j g c (omega arith); before = l; changes = subst (λ (d : ℕ). Changes n i j g d set) b k }
 
 -- cut c, made: its two events, and what it comes to
 module _ (n i j c : ℕ) (ni : c / 2 ≡ i → ⊥) (nj : c / 2 ≡ j → ⊥) where
