@@ -28,13 +28,12 @@ use Rattle.placing.specs.Settling.{settles}
 use Rattle.placing.specs.Checking.{length_refusal}
 use Rattle.placing.proofs.CheckLaws.{lengths, length-right}
 use Rattle.search.specs.Rule.{there_at, try_at, search_at, search_of, from_closed}
-use Rattle.search.specs.Answers.{Said, said_placed, said_none, said_gave_up, said_of, search_refusal, said_by, room_by, Looks}
+use Rattle.search.specs.Answers.{said_of, search_refusal, said_by, room_by, Looks}
 use Rattle.quick.specs.Steps.{ClosedGrid}
-use Rattle.search.specs.Steps.{said_with, Shows, answer_with, answer_of}
+use Rattle.search.specs.Steps.{Shows}
 use Rattle.search.specs.declared.Looked.{Looked}
 use Rattle.search.specs.declared.Outcome.{Outcome}
-use Rattle.search.specs.declared.PlaceAnswer.{PlaceAnswer}
-use Rattle.search.specs.declared.PlaceAnswer.TheVariants.{Placed, None, GaveUp, Refused}
+use Rattle.std.proofs.Common.{Result, Ok, Err}
 use Rattle.search.proofs.TryRight.{whole_searched}
 use Rattle.search.proofs.LookLaws.{a-grid}
 use Rattle.search.proofs.SearchRight.{first-emptied, first-whole, means}
@@ -54,14 +53,9 @@ module _ (n allowance : ℕ) (g : List ℕ) where
 pub first_searched : (n : ℕ) (g : List ℕ) → Accepted n g → (e : End) (v : ℕ) (h : List ℕ) → tried_by (ended e h) ≡ closes_to allen n g → e ≡ Closed v → ClosedGrid n h
 first_searched n g a e v h q is = whole_searched n h (first-whole n g a h (sym q ∙ a-grid e v h is))
 
-said_with_lem : (o : Outcome) (t : ℕ) → said_of (answer_with o t) ≡ answers (said_with o t)
-said_with_lem Outcome.Placed t = refl
-said_with_lem Outcome.None t = refl
-said_with_lem Outcome.GaveUp t = refl
-
 -- ---- the public statement
 
-pub refuses : (n a : ℕ) (g : List ℕ) (room : List ℤ) (r : Refusal) → number_of r ≡ search_refusal n g (length room) → Looks n a g room (Refused r) room
+pub refuses : (n a : ℕ) (g : List ℕ) (room : List ℤ) (r : Refusal) → number_of r ≡ search_refusal n g (length room) → Looks n a g room (Err r) room
 refuses n a g room r e =
     let k = number_pos r in
     let off : eqb (search_refusal n g (length room)) 0 ≡ false = ne_eqb (search_refusal n g (length room)) 0 (λ z. omega arith) in
@@ -78,22 +72,19 @@ module _ (n a : ℕ) (g : List ℕ) (room : List ℤ) (acc : Accepted n g) (long
   on : eqb (search_refusal n g (length room)) 0 ≡ true
   on = eq-eqb (search_refusal n g (length room)) 0 never_due
 
-  pub looks : (e : Found) (room' : List ℤ) (l : Looked) → search_of n a g ≡ e → Shows n a e room l room' → Looks n a g room (answer_of l) room'
+  pub looks : (e : Found) (room' : List ℤ) (l : Looked) → search_of n a g ≡ e → Shows n a e room l room' → Looks n a g room (Ok l) room'
   looks e room' l q s =
-      let said : said_of (answer_of l) ≡ answers (said_by (search_of n a g)) = said_with_lem l.outcome l.tries ∙ ap answers (s.answer ∙ sym (ap said_by q)) in
+      let said : said_of (Ok l) ≡ answers (said_by (search_of n a g)) = ap answers (s.answer ∙ sym (ap said_by q)) in
       let after : room' ≡ room_by n (search_of n a g) room = s.room_after ∙ sym (ap (λ (x : Found). room_by n x room) q) in
-      record { answer = said ∙ simp on; room_after = after ∙ simp on; means = means n g acc a (search_of n a g) refl (answer_of l) room room' said after }
+      record { answer = said ∙ simp on; room_after = after ∙ simp on; means = means n g acc a (search_of n a g) refl (Ok l) room room' said after }
 
   -- and what such a statement says
-  module _ (room' : List ℤ) (ans : PlaceAnswer) (l : Looks n a g room ans room') where
+  module _ (room' : List ℤ) (ans : Result Looked Refusal) (l : Looks n a g room ans room') where
     pub answer-is : said_of ans ≡ answers (said_by (search_of n a g))
     answer-is = l.answer ∙ simp on
 
     pub room-is : room' ≡ room_by n (search_of n a g) room
     room-is = l.room_after ∙ simp on
-
-pub looks_as : (n a : ℕ) (g : List ℕ) (room room' : List ℤ) (x y : PlaceAnswer) → x ≡ y → Looks n a g room y room' → Looks n a g room x room'
-looks_as n a g room room' x y e l = subst (λ (z : PlaceAnswer). Looks n a g room z room') (sym e) l
 
 -- no refusal: the grid is accepted, and the room has 2 * n numbers
 pub record Taken (n : ℕ) (g : List ℕ) (m : ℕ) : Type 0 where
@@ -109,34 +100,20 @@ taken n g m e =
 
 -- ---- any two outcomes that the statement allows are equal
 
-said_unique : (r s : PlaceAnswer) → said_of r ≡ said_of s → r ≡ s
-said_unique (Placed t) (Placed u) e = cc
-said_unique (None t) (None u) e = cc
-said_unique (GaveUp t) (GaveUp u) e = cc
-said_unique (Refused a) (Refused b) e = ap Refused (number_unique a b (cc))
-said_unique (Placed t) (None u) e = let z : ◌≡◌ {A = ℕ} 0 1 = cc in absurd (omega arith)
-said_unique (Placed t) (GaveUp u) e = let z : ◌≡◌ {A = ℕ} 0 1 = cc in absurd (omega arith)
-said_unique (Placed t) (Refused u) e = let z : ◌≡◌ {A = ℕ} 0 1 = cc in absurd (omega arith)
-said_unique (None t) (Placed u) e = let z : ◌≡◌ {A = ℕ} 0 1 = cc in absurd (omega arith)
-said_unique (None t) (GaveUp u) e = let z : ◌≡◌ {A = ℕ} 0 1 = cc in absurd (omega arith)
-said_unique (None t) (Refused u) e = let z : ◌≡◌ {A = ℕ} 0 1 = cc in absurd (omega arith)
-said_unique (GaveUp t) (Placed u) e = let z : ◌≡◌ {A = ℕ} 0 1 = cc in absurd (omega arith)
-said_unique (GaveUp t) (None u) e = let z : ◌≡◌ {A = ℕ} 0 1 = cc in absurd (omega arith)
-said_unique (GaveUp t) (Refused u) e = let z : ◌≡◌ {A = ℕ} 0 1 = cc in absurd (omega arith)
-said_unique (Refused t) (Placed u) e = let z : ◌≡◌ {A = ℕ} 0 1 = cc in absurd (omega arith)
-said_unique (Refused t) (None u) e = let z : ◌≡◌ {A = ℕ} 0 1 = cc in absurd (omega arith)
-said_unique (Refused t) (GaveUp u) e = let z : ◌≡◌ {A = ℕ} 0 1 = cc in absurd (omega arith)
+said_unique : (r s : Result Looked Refusal) → said_of r ≡ said_of s → r ≡ s
+said_unique (Ok l) (Ok m) e = cc
+said_unique (Err a) (Err b) e = ap Err (number_unique a b (cc))
+said_unique (Ok l) (Err b) e = absurd (cc)
+said_unique (Err a) (Ok m) e = absurd (cc)
 
-pub looks_unique : (n a : ℕ) (g : List ℕ) (room h k : List ℤ) (r s : PlaceAnswer) → Looks n a g room r h → Looks n a g room s k → (r ≡ s) × (h ≡ k)
+pub looks_unique : (n a : ℕ) (g : List ℕ) (room h k : List ℤ) (r s : Result Looked Refusal) → Looks n a g room r h → Looks n a g room s k → (r ≡ s) × (h ≡ k)
 looks_unique n a g room h k r s p q = (said_unique r s (p.answer ∙ sym q.answer), p.room_after ∙ sym q.room_after)
 
 -- ---- the tries are never more than the allowance
 
 -- the tries that an answer reports
-abbrev reported : Answered Said → ℕ
-reported (answers (said_placed t)) = t
-reported (answers (said_none t)) = t
-reported (answers (said_gave_up t)) = t
+abbrev reported : Answered Looked → ℕ
+reported (answers l) = l.tries
 reported (refused k) = 0
 
 pub search_within : (n a : ℕ) (g : List ℕ) → tries_of (search_of n a g) ≤ a
@@ -155,15 +132,11 @@ reported_within n a g = subst (λ (t : ℕ). t ≤ a) (same (search_of n a g)) (
     same (none t) = refl
     same (gave_up t) = refl
 
-pub looks_within : (n a : ℕ) (g : List ℕ) (room room' : List ℤ) (ans : PlaceAnswer) → Looks n a g room ans room'
-    → (t : ℕ) → (ans ≡ Placed t) ⊎ (ans ≡ None t) ⊎ (ans ≡ GaveUp t) → t ≤ a
-looks_within n a g room room' ans l t w = subst (λ (u : ℕ). u ≤ a) (said w) (subst (λ (s : Answered Said). reported s ≤ a) (sym l.answer) (by (eqb (search_refusal n g (length room)) 0)))
+pub looks_within : (n a : ℕ) (g : List ℕ) (room room' : List ℤ) (ans : Result Looked Refusal) → Looks n a g room ans room' → (l : Looked) → ans ≡ Ok l → l.tries ≤ a
+looks_within n a g room room' ans looks l e =
+    subst (λ (u : ℕ). u ≤ a) (ap (λ (x : Result Looked Refusal). reported (said_of x)) e)
+    (subst (λ (s : Answered Looked). reported s ≤ a) (sym looks.answer) (by (eqb (search_refusal n g (length room)) 0)))
   where
     by : (b : Bool) → reported (cond b (answers (said_by (search_of n a g))) (refused (search_refusal n g (length room)))) ≤ a
     by true = reported_within n a g
     by false = omega arith
-
-    said : (ans ≡ Placed t) ⊎ (ans ≡ None t) ⊎ (ans ≡ GaveUp t) → reported (said_of ans) ≡ t
-    said (inl e) = ap (λ (x : PlaceAnswer). reported (said_of x)) e
-    said (inr (inl e)) = ap (λ (x : PlaceAnswer). reported (said_of x)) e
-    said (inr (inr e)) = ap (λ (x : PlaceAnswer). reported (said_of x)) e

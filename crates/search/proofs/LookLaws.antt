@@ -29,9 +29,9 @@ use Rattle.takes.specs.declared.End.{End}
 use Rattle.takes.specs.declared.End.TheVariants.{Contradiction, Closed, Paused}
 use Rattle.takes.specs.contracts.End.{the_type as end-type}
 use Rattle.search.specs.Rule.{there_at, try_at, search_at}
-use Rattle.search.specs.Answers.{said_by, room_by}
+use Rattle.search.specs.Answers.{looked, said_by, room_by}
 use Rattle.quick.specs.Steps.{ClosedGrid, Cuttable}
-use Rattle.search.specs.Steps.{said_with, Shows, Settles, Triable, AtCell, Stands, Steps, Passes, goes_on, after}
+use Rattle.search.specs.Steps.{Shows, Settles, Triable, AtCell, Stands, Steps, Passes, goes_on, after}
 use Rattle.search.specs.declared.Looked.{Looked}
 use Rattle.search.specs.declared.Stand.{Stand}
 use Rattle.search.specs.declared.Outcome.{Outcome}
@@ -100,20 +100,20 @@ try_made n i j r v g e = ap (λ (x : ℕ). closes_to allen n (put_both converse 
 
 -- ---- what the cells after this one came to
 
-none_shown : (o : Outcome) (t : ℕ) (e : Found) → o ≡ None → said_with o t ≡ said_by e → e ≡ none t
-none_shown o t e q s = go e (sym (ap (λ (x : Outcome). said_with x t) q) ∙ s)
+none_shown : (o : Outcome) (t : ℕ) (e : Found) → o ≡ None → looked o t ≡ said_by e → e ≡ none t
+none_shown o t e q s = go e (sym (ap (λ (x : Outcome). looked x t) q) ∙ s)
   where
-    go : (e : Found) → said_with None t ≡ said_by e → e ≡ none t
-    go (placed u h) z = absurd (let y : ◌≡◌ {A = ℕ} 0 1 = cc in omega arith)
-    go (none u) z = cc
-    go (gave_up u) z = absurd (let y : ◌≡◌ {A = ℕ} 0 1 = cc in omega arith)
+    go : (e : Found) → looked None t ≡ said_by e → e ≡ none t
+    go (placed u h) z = let y : None ≡ Placed = ap (λ (x : Looked). x.outcome) z in absurd (cc)
+    go (none u) z = ap none (sym (ap (λ (x : Looked). x.tries) z))
+    go (gave_up u) z = let y : None ≡ GaveUp = ap (λ (x : Looked). x.outcome) z in absurd (cc)
 
-kept_shown : (o : Outcome) (t : ℕ) (e : Found) (next : ℕ → Found) → OneOf (0 ∷ 2 ∷ []) (tag_of outcome-type o) → said_with o t ≡ said_by e → or_next e next ≡ e
+kept_shown : (o : Outcome) (t : ℕ) (e : Found) (next : ℕ → Found) → OneOf (0 ∷ 2 ∷ []) (tag_of outcome-type o) → looked o t ≡ said_by e → or_next e next ≡ e
 kept_shown o t (placed u h) next x s = refl
 kept_shown o t (gave_up u) next x s = refl
-kept_shown Placed t (none u) next x s = absurd (let y : ◌≡◌ {A = ℕ} 0 1 = cc in omega arith)
+kept_shown Placed t (none u) next x s = let y : Placed ≡ None = ap (λ (x : Looked). x.outcome) s in absurd (cc)
 kept_shown None t (none u) next x s = absurd (⊎_elim (λ e. omega arith) (λ e. omega arith) x)
-kept_shown GaveUp t (none u) next x s = absurd (let y : ◌≡◌ {A = ℕ} 0 1 = cc in omega arith)
+kept_shown GaveUp t (none u) next x s = let y : GaveUp ≡ None = ap (λ (x : Looked). x.outcome) s in absurd (cc)
 
 -- one relation's turn, of what the callees answered
 module _ (n a : ℕ) (ps : List Pair) (p : Pair) (g g' : List ℕ) (r t : ℕ) (e : End) (lt : r < 13) (there : there_at n p r g ≡ true) (fresh : t ≡ a → ⊥)
@@ -146,11 +146,11 @@ module _ (n a : ℕ) (ps : List Pair) (p : Pair) (g g' : List ℕ) (r t : ℕ) (
 module _ (n a t : ℕ) (e : Found) (room room' : List ℤ) (l : Looked) (kept : room' ≡ room) (within : t ≤ a) (tries : l.tries ≡ t) where
   pub shows_gave_up : e ≡ gave_up t → l.outcome ≡ GaveUp → Shows n a e room l room'
   shows_gave_up q o =
-      record { answer = ap₂ said_with o tries ∙ sym (ap said_by q); room_after = kept ∙ sym (ap (λ (x : Found). room_by n x room) q); within = omega arith }
+      record { answer = ap₂ looked o tries ∙ sym (ap said_by q); room_after = kept ∙ sym (ap (λ (x : Found). room_by n x room) q); within = omega arith }
 
   pub shows_none : e ≡ none t → l.outcome ≡ None → Shows n a e room l room'
   shows_none q o =
-      record { answer = ap₂ said_with o tries ∙ sym (ap said_by q); room_after = kept ∙ sym (ap (λ (x : Found). room_by n x room) q); within = omega arith }
+      record { answer = ap₂ looked o tries ∙ sym (ap said_by q); room_after = kept ∙ sym (ap (λ (x : Found). room_by n x room) q); within = omega arith }
 
 -- ---- from one stand to another
 

@@ -14,7 +14,8 @@ use lib.ListN.{length}
 use Rattle.relation.proofs.Tested.{all, all-at}
 use Rattle.theory.specs.Search.{Pair, Tried, emptied, closed, Found, placed, none, gave_up, or_next, turn_of, relations_from, row, rows, pairs_from}
 use Rattle.placing.specs.Settling.{settles, Settled}
-use Rattle.search.specs.Steps.{said_with, Settles, AtCell, after}
+use Rattle.search.specs.Answers.{looked}
+use Rattle.search.specs.Steps.{Settles, AtCell, after}
 use Rattle.search.specs.declared.Looked.{Looked}
 use Rattle.search.specs.declared.Outcome.TheVariants.{Placed, None}
 
@@ -110,12 +111,12 @@ module _ (n t : ℕ) (g : List ℕ) (room end : List ℤ) (b : Bool) (l : Looked
   pub settles-placed : b ≡ true → l.outcome ≡ Placed → l.tries ≡ t → Settles n t g room l end
   settles-placed e o q =
       let y : settles n g ≡ true = sym s.answer ∙ e in
-      record { answer = ap₂ said_with o q ∙ simp y; room_after = s.room_after ∙ simp y; tries = q }
+      record { answer = ap₂ looked o q ∙ simp y; room_after = s.room_after ∙ simp y; tries = q }
 
   pub settles-none : b ≡ false → l.outcome ≡ None → l.tries ≡ t → Settles n t g room l end
   settles-none e o q =
       let y : settles n g ≡ false = sym s.answer ∙ e in
-      record { answer = ap₂ said_with o q ∙ simp y; room_after = s.room_after ∙ simp y; tries = q }
+      record { answer = ap₂ looked o q ∙ simp y; room_after = s.room_after ∙ simp y; tries = q }
 
 -- ---- the relations of one cell: what is left, from here, is the whole
 

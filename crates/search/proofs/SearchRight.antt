@@ -38,8 +38,9 @@ use Rattle.placing.specs.Settling.{settles, placing_of}
 use Rattle.placing.proofs.SettleLaws.{settled-meets, placing-length, placing_gapless}
 use Rattle.search.specs.Rule.{there_at, try_at, search_at, search_of, from_closed}
 use Rattle.search.specs.Answers.{said_of, said_by, room_by, ScenarioOf, FirstPlacing, Meant}
-use Rattle.search.specs.declared.PlaceAnswer.{PlaceAnswer}
-use Rattle.search.specs.declared.PlaceAnswer.TheVariants.{Placed, None, GaveUp, Refused}
+use Rattle.search.specs.declared.Looked.{Looked}
+use Rattle.refusal.specs.declared.Refusal.{Refusal}
+use Rattle.std.proofs.Common.{Result, Ok, Err}
 use Rattle.quick.proofs.PairLaws.{closes_by_takes}
 use Rattle.search.proofs.TryRight.{Upper, Whole, Ready, searchable}
 
@@ -246,14 +247,13 @@ module _ (n : ℕ) (g : List ℕ) (a : Accepted n g) where
 
     -- ---- every answer
 
-    pub means : (e : Found) → search_of n allowance g ≡ e → (ans : PlaceAnswer) (room xs : List ℤ) → said_of ans ≡ answers (said_by e) → xs ≡ room_by n e room → Meant n allowance g xs ans
-    means (placed t k) q (Placed u) room xs s x = subst (FirstPlacing n g) (sym x) (placed-means t k q)
-    means (none t) q (None u) room xs s x = none-means t q
-    means (gave_up t) q (GaveUp u) room xs s x = let z : u ≡ t = cc in z ∙ gave_up-means t q
-    means e q (Refused r) room xs s x = tt
-    means (placed t k) q (None u) room xs s x = absurd (let y : ◌≡◌ {A = ℕ} 0 1 = cc in omega arith)
-    means (placed t k) q (GaveUp u) room xs s x = absurd (let y : ◌≡◌ {A = ℕ} 0 1 = cc in omega arith)
-    means (none t) q (Placed u) room xs s x = absurd (let y : ◌≡◌ {A = ℕ} 0 1 = cc in omega arith)
-    means (none t) q (GaveUp u) room xs s x = absurd (let y : ◌≡◌ {A = ℕ} 0 1 = cc in omega arith)
-    means (gave_up t) q (Placed u) room xs s x = absurd (let y : ◌≡◌ {A = ℕ} 0 1 = cc in omega arith)
-    means (gave_up t) q (None u) room xs s x = absurd (let y : ◌≡◌ {A = ℕ} 0 1 = cc in omega arith)
+    outcome-means : (e : Found) → search_of n allowance g ≡ e → (room xs : List ℤ) → xs ≡ room_by n e room → Meant n allowance g xs (Ok (said_by e))
+    outcome-means (placed t k) q room xs x = subst (FirstPlacing n g) (sym x) (placed-means t k q)
+    outcome-means (none t) q room xs x = none-means t q
+    outcome-means (gave_up t) q room xs x = gave_up-means t q
+
+    pub means : (e : Found) → search_of n allowance g ≡ e → (ans : Result Looked Refusal) (room xs : List ℤ) → said_of ans ≡ answers (said_by e) → xs ≡ room_by n e room → Meant n allowance g xs ans
+    means e q (Ok l) room xs s x =
+        let same : said_by e ≡ l = cc in
+        subst (λ (y : Looked). Meant n allowance g xs (Ok y)) same (outcome-means e q room xs x)
+    means e q (Err r) room xs s x = tt

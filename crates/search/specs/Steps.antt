@@ -4,37 +4,19 @@ use Rattle.theory.specs.Search.{Pair, Found, past_last, pairs_from}
 use Rattle.placing.specs.Settling.{settles}
 use Rattle.quick.specs.Steps.{ClosedGrid}
 use Rattle.search.specs.Rule.{there_at, search_at}
-use Rattle.search.specs.Answers.{Said, said_placed, said_none, said_gave_up, said_by, room_by}
-use Rattle.search.specs.declared.Outcome.{Outcome}
-use Rattle.search.specs.declared.Outcome.TheVariants.{Placed, None, GaveUp}
+use Rattle.search.specs.Answers.{said_by, room_by}
 use Rattle.search.specs.declared.Looked.{Looked}
 use Rattle.search.specs.declared.Stand.{Stand}
-use Rattle.search.specs.declared.PlaceAnswer.{PlaceAnswer}
-use Rattle.search.specs.declared.PlaceAnswer.TheVariants as Answer
-
-abbrev pub said_with : Outcome → ℕ → Said
-said_with Placed t = said_placed t
-said_with None t = said_none t
-said_with GaveUp t = said_gave_up t
 
 -- the answer and the room are those of a search's end
 pub record Shows (n allowance : ℕ) (e : Found) (room : List ℤ) (l : Looked) (room' : List ℤ) : Type 0 where
-  pub answer : said_with l.outcome l.tries ≡ said_by e
+  pub answer : l ≡ said_by e
   pub room_after : room' ≡ room_by n e room
   pub within : l.tries ≤ allowance
 
--- what the cells came to, as an answer
-abbrev pub answer_with : Outcome → ℕ → PlaceAnswer
-answer_with Placed t = Answer.Placed t
-answer_with None t = Answer.None t
-answer_with GaveUp t = Answer.GaveUp t
-
-abbrev pub answer_of : Looked → PlaceAnswer
-answer_of l = answer_with l.outcome l.tries
-
 -- past the last cell
 pub record Settles (n t : ℕ) (g : List ℕ) (room : List ℤ) (l : Looked) (room' : List ℤ) : Type 0 where
-  pub answer : said_with l.outcome l.tries ≡ said_by (past_last (settles n g) t g)
+  pub answer : l ≡ said_by (past_last (settles n g) t g)
   pub room_after : room' ≡ room_by n (past_last (settles n g) t g) room
   pub tries : l.tries ≡ t
 

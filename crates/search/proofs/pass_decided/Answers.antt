@@ -13,7 +13,7 @@ returns-then-at-allowance c = c.loop-at.invariant
 pub get-set-requires : goal.get-set-requires
 get-set-requires c =
     let in_grid = stands_in _ _ _ c.loop-at.invariant.stands c.loop-at-test.true in
-    (c.requires.1.accepted.few, in_grid.0, in_grid.1, omega (arith, c.requires.1.accepted.long))
+    (in_grid.0, in_grid.1)
 
 pub without_lowest-requires : goal.without_lowest-requires
 without_lowest-requires c =
@@ -26,21 +26,21 @@ returns-then-without_lowest-ne0 c = c.loop-at.invariant
 pub overflow_add-at : goal.overflow_add-at
 overflow_add-at c = omega (arith, c.ranges.allowance, tries_left _ _ c.loop-at.invariant.stands.within c.if-at-allowance.false)
 
-pub step-at-requires : goal.step-at-requires
-step-at-requires c =
+pub next-at-requires : goal.next-at-requires
+next-at-requires c =
     let in_grid = stands_in _ _ _ c.loop-at.invariant.stands c.loop-at-test.true in
     (c.loop-at.invariant.stands.at.few, c.loop-at.invariant.stands.at.upper, in_grid.1, c.loop-at-test.true)
 
 pub loop-at-smaller : goal.loop-at-smaller
-loop-at-smaller c = omega (arith, c.step-at.ensures.left, c.loop-at-test.true)
+loop-at-smaller c = omega (arith, c.next-at.ensures.left, c.loop-at-test.true)
 
 pub loop-at-preserved : goal.loop-at-preserved
 loop-at-preserved c =
     let alone = sym c.without_lowest.ensures ∙ c.if-without_lowest-ne0.false in
     record {
-      stands = alone_stands _ _ _ c.requires.1 _ _ c.loop-at.invariant.stands c.loop-at-test.true c.if-at-allowance.false c.step-at.ensures _ c.get-set.ensures alone;
-      fewer = omega (arith, c.step-at.ensures.left, c.loop-at.invariant.fewer);
-      same = alone_goes_on _ _ _ c.requires.1 _ _ c.loop-at.invariant.stands c.loop-at-test.true c.if-at-allowance.false c.step-at.ensures _ c.get-set.ensures alone ∙ c.loop-at.invariant.same;
+      stands = alone_stands _ _ _ c.requires.1 _ _ c.loop-at.invariant.stands c.loop-at-test.true c.if-at-allowance.false c.next-at.ensures _ c.get-set.ensures alone;
+      fewer = omega (arith, c.next-at.ensures.left, c.loop-at.invariant.fewer);
+      same = alone_goes_on _ _ _ c.requires.1 _ _ c.loop-at.invariant.stands c.loop-at-test.true c.if-at-allowance.false c.next-at.ensures _ c.get-set.ensures alone ∙ c.loop-at.invariant.same;
     }
 
 pub returns : goal.returns
