@@ -6,6 +6,7 @@ ghost use Rattle.std.specs.Prelude.{◌*◌, ◌%◌, ◌^◌, ◌≤◌, ◌≡
 ghost use Rattle.std.specs.Int.{w32, to_le_bytes};
 ghost use Rattle.std.specs.Io.KnownBytes.{Appends, Consumes, IsAtEnd};
 ghost use Rattle.refusal.specs.Numbers.{number_of};
+ghost use Rattle.cases.specs.Answering.{most_cases, Answered};
 
 use refusal::Refusal;
 use std::io;
@@ -104,6 +105,7 @@ pub fn answer_all<R: Read, W: Write, F: FnMut(&mut R, &mut W) -> io::Result<bool
     mut answered: F,
 ) -> io::Result<()>
     requires { F.IsAlwaysCallable answered }
+    ensures { Answered F.FnMut reader.new writer.new most_cases answered reader.old writer.old result }
 {
     for _ in 0..MOST {
         if !answered(reader, writer)? {

@@ -10,7 +10,7 @@ use std::io;
 use std::io::{Read, Write};
 
 // One byte more than a sheet may have, so that a longer one is seen as such.
-pub const ROOM: usize = 65537;
+const ROOM: usize = 65537;
 
 // Reads up to the end of the input, or until the room is full: how many bytes came. A read that fails ends it with its error.
 pub fn read_sheet<R: Read>(reader: &mut R, room: &mut [u8]) -> io::Result<usize>
@@ -41,7 +41,7 @@ pub fn answer<R: Read, W: Write, E: Eprint, F: FnOnce(&[u8], &mut [u8]) -> usize
 ) -> io::Result<()>
     requires callable { F.IsAlwaysCallable report }
     requires fits { Fits F.FnOnce report room.old }
-    ensures written { OnOk result (Answers F.FnOnce report 65537 (R.remaining reader.old) (R.remaining reader.new) room.old room.new (W.contents writer.old) (W.contents writer.new)) }
+    ensures written { OnOk result (Answers F.FnOnce report (R.remaining reader.old) (R.remaining reader.new) room.old room.new (W.contents writer.old) (W.contents writer.new)) }
 {
     let mut sheet = [0u8; ROOM];
     let n = read_sheet(reader, &mut sheet).inspect_err(|_| {

@@ -103,8 +103,9 @@ fn answer<W: Write>(writer: &mut W, bytes: &[u8], cells: &mut [u16], i: usize) -
         checksum(cells),
         cases::low32(name_start(bytes, i)),
         cases::low32(name.len()),
-    ];
-    cases::send(writer, answer, numbers.map(|x| x.to_le_bytes()).as_flattened())?;
+    ]
+    .map(u32::to_le_bytes);
+    cases::send(writer, answer, numbers.as_flattened())?;
     writer.write_all(name)
 }
 
