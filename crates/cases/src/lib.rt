@@ -2,7 +2,7 @@
 // first. What they write is compared with stored answers.
 #![tactic(auto)]
 
-ghost use Rattle.std.specs.Prelude.{◌*◌, ◌%◌, ◌^◌, ◌≤◌, ◌≡◌, ◌∷◌, ◌++◌, true, false, Ok, OnOk, length};
+ghost use Rattle.std.specs.Prelude.{◌*◌, ◌%◌, ◌^◌, ◌≤◌, ◌≡◌, ◌∷◌, ◌++◌, true, false, Ok, None, OnOk, length};
 ghost use Rattle.std.specs.Int.{w32, to_le_bytes};
 ghost use Rattle.std.specs.Io.KnownBytes.{Appends, Consumes, IsAtEnd};
 ghost use Rattle.refusal.specs.Numbers.{number_of};
@@ -78,7 +78,9 @@ pub fn receive<R: Read>(reader: &mut R, room: &mut [u8]) -> io::Result<bool>
 }
 
 // The next N numbers of the input, of 32 bits each: none where it ends first.
-pub fn receive_numbers<R: Read, const N: usize>(reader: &mut R) -> io::Result<Option<[u32; N]>> {
+pub fn receive_numbers<R: Read, const N: usize>(reader: &mut R) -> io::Result<Option<[u32; N]>>
+    ensures none { result ≡ Ok None → IsAtEnd (R.remaining reader.new) }
+{
     let mut fours = [[0u8; 4]; N];
     if !receive(reader, fours.as_flattened_mut())? {
         return Ok(None);

@@ -1,5 +1,5 @@
 -- Each turn is one call; the last one made says how all ends.
-use Rattle.std.proofs.Common.{◌≡◌, ℕ, suc, ◌+◌, ◌-◌, ◌<◌, Bool, true, false, Result, Ok, Err, sym, refl, subst, arith, rules, ◌∙◌, ap, of_calls, ◌≤◌}
+use Rattle.std.proofs.Common.{◌≡◌, ℕ, suc, ◌+◌, ◌-◌, ◌<◌, Bool, true, false, Result, Ok, Err, sym, refl, subst, arith, ◌∙◌, ap, of_calls, ◌≤◌}
 use Rattle.std.specs.Result.{IsErrAnd}
 use Rattle.cases.specs.Answering.{most_cases, Answerer, Answers, Answered, all, none, failed, more}
 use denote.Ref.{MutBor}
