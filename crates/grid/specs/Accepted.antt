@@ -1,11 +1,9 @@
 -- Rules 3.2 and 7: when a grid is accepted, and the refusals 1 to 5.
-use Rattle.std.specs.Prelude.{◌≡◌, Bool, not, cond, List, ℕ, ◌*◌, ◌≤◌, ◌<◌, eqb, ltb, length, get_or, Result, Ok, Err}
+use Rattle.std.specs.Prelude.{◌≡◌, Bool, not, cond, List, ℕ, ◌*◌, ◌≤◌, ◌<◌, eqb, ltb, length, get_or}
 use Rattle.refusal.specs.Answered.{first_of}
-use Rattle.refusal.specs.Numbers.{number_of}
 use Rattle.relation.specs.Sets.{some}
 use Rattle.relation.specs.Composition.{converse}
 use Rattle.grid.specs.Cells.{cell}
-use Rattle.refusal.specs.declared.Refusal.{Refusal}
 
 pub record Accepted (n : ℕ) (g : List ℕ) : Type 0 where
   pub few : n ≤ 32
@@ -44,8 +42,3 @@ cell_refusal n g = cond (some_large g) 3 (cond (some_not_eq n g) 4 (cond (some_u
 -- the first refusal of a grid; 0 is none
 abbrev pub grid_refusal : ℕ → List ℕ → ℕ
 grid_refusal n g = first_of (size_refusal n g) (cell_refusal n g)
-
--- an answer's number
-abbrev pub judged_number : {A : Type 0} → Result A Refusal → ℕ
-judged_number (Ok u) = 0
-judged_number (Err r) = number_of r

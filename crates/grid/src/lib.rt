@@ -2,9 +2,10 @@
 #![tactic(auto)]
 
 ghost use Rattle.std.specs.Prelude.{IfOk, ◌≡◌, false, ◌||◌, ◌++◌, ◌*◌, ◌≤◌, ◌<◌, length, take, drop, replicate};
+ghost use Rattle.refusal.specs.Answered.{refusal_of};
 ghost use Rattle.relation.specs.Composition.{converse};
 ghost use Rattle.grid.specs.Cells.{cell, put, put_both, some_empty};
-ghost use Rattle.grid.specs.Accepted.{size_refusal, cell_refusal, grid_refusal, some_large, some_not_eq, unlike, some_unlike, judged_number};
+ghost use Rattle.grid.specs.Accepted.{size_refusal, cell_refusal, grid_refusal, some_large, some_not_eq, unlike, some_unlike};
 ghost use Rattle.grid.specs.Steps.{above_unlike};
 
 use refusal::Refusal;
@@ -84,7 +85,7 @@ pub fn copy(to: &mut [u16], from: &[u16], m: usize)
 impl<'a> Grid<'a> {
     // A grid of n events, in just so many cells; else refusal 1 or 2.
     pub fn sized(cells: &'a [u16], n: usize) -> Result<Grid<'a>, Refusal>
-        ensures refusal { judged_number result ≡ size_refusal n cells.entry.now }
+        ensures refusal { refusal_of result ≡ size_refusal n cells.entry.now }
         ensures same { IfOk result (λ g. (g.n ≡ n) × (g.cells ≡ cells.entry)) }
     {
         if EVENTS < n {
@@ -106,7 +107,7 @@ impl<'a> Grid<'a> {
 
     // Refusals 3, 4 and 5.
     pub fn judge_cells(self) -> Result<(), Refusal>
-        ensures { judged_number result ≡ cell_refusal self.entry.n self.entry.cells.now }
+        ensures { refusal_of result ≡ cell_refusal self.entry.n self.entry.cells.now }
     {
         if some_large(self.cells) {
             return Err(Refusal::SetTooLarge);
@@ -174,7 +175,7 @@ impl<'a> Grid<'a> {
 
 // Refusals 1 to 5 of a grid.
 pub fn judge(g: &[u16], n: usize) -> Result<(), Refusal>
-    ensures { judged_number result ≡ grid_refusal n g.now }
+    ensures { refusal_of result ≡ grid_refusal n g.now }
 {
     Grid::sized(g, n)?.judge_cells()
 }

@@ -2,7 +2,8 @@
 #![tactic(auto)]
 
 ghost use Rattle.std.specs.Prelude.{◌≡◌};
-ghost use Rattle.relation.specs.Answers.{said_of, compose_said};
+ghost use Rattle.refusal.specs.Answered.{said_of};
+ghost use Rattle.relation.specs.Answers.{compose_said};
 ghost use Rattle.quick.specs.Answers.{QuickCloses};
 ghost use Rattle.plain.specs.Answers.{PlainCloses};
 ghost use Rattle.search.specs.Answers.{Looks};

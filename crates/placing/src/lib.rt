@@ -4,7 +4,7 @@
 ghost use Rattle.std.specs.Prelude.{IfOk, ◌≡◌, ◌+◌, ◌*◌, ◌≤◌, ◌<◌, length};
 ghost use Rattle.std.specs.Int.Signed.{lt_z};
 ghost use Rattle.relation.specs.Comparing.{more, rel_by, rel_from};
-ghost use Rattle.grid.specs.Accepted.{judged_number};
+ghost use Rattle.refusal.specs.Answered.{refusal_of};
 ghost use Rattle.placing.specs.Placing.{at, natural_of};
 ghost use Rattle.placing.specs.Checking.{length_refusal, some_late, rest_refusal, check_refusal, CheckSays};
 ghost use Rattle.placing.specs.Settling.{earlier, end_before, ends_before, relation_at, row_missed, some_missed, Settled};
@@ -30,7 +30,7 @@ pub fn check_placing(g: &[u16], n: usize, placing: &[i32]) -> Result<bool, Refus
 
 // A grid of n events with a placing, or room for one, of so many numbers; else refusal 1, 2 or 6.
 pub fn sized<'a>(g: &'a [u16], n: usize, numbers: usize) -> Result<Grid<'a>, Refusal>
-    ensures refusal { judged_number result ≡ length_refusal n g.entry.now numbers }
+    ensures refusal { refusal_of result ≡ length_refusal n g.entry.now numbers }
     ensures same { IfOk result (λ x. (x.n ≡ n) × (x.cells ≡ g.entry)) }
 {
     let grid = Grid::sized(g, n)?;
@@ -42,7 +42,7 @@ pub fn sized<'a>(g: &'a [u16], n: usize, numbers: usize) -> Result<Grid<'a>, Ref
 
 // A grid of n events and a placing that can be checked; else refusal 1, 2, 6, 3, 4, 5 or 7, in this order.
 fn judged<'a>(g: &'a [u16], n: usize, placing: &[i32]) -> Result<Grid<'a>, Refusal>
-    ensures refusal { judged_number result ≡ check_refusal n g.entry.now placing.now }
+    ensures refusal { refusal_of result ≡ check_refusal n g.entry.now placing.now }
     ensures same { IfOk result (λ x. (x.n ≡ n) × (x.cells ≡ g.entry)) }
 {
     let grid = sized(g, n, placing.len())?;
@@ -53,7 +53,7 @@ fn judged<'a>(g: &'a [u16], n: usize, placing: &[i32]) -> Result<Grid<'a>, Refus
 // Refusals 3, 4, 5 and 7 of a grid and a placing of its length.
 fn judge_rest(grid: Grid, placing: &[i32]) -> Result<(), Refusal>
     requires { 2 * grid.n ≤ length placing.now }
-    ensures { judged_number result ≡ rest_refusal grid.entry.n grid.entry.cells.now placing.now }
+    ensures { refusal_of result ≡ rest_refusal grid.entry.n grid.entry.cells.now placing.now }
 {
     grid.judge_cells()?;
     if some_late(grid.n, placing) {

@@ -1,6 +1,6 @@
 -- Rules 4.2 and 7: the answer and the cells afterwards, for every input.
-use Rattle.std.specs.Prelude.{◌≡◌, List, ℕ, ◌*◌, ◌<◌, length, replicate, Result, Ok, Err}
-use Rattle.refusal.specs.Numbers.{number_of}
+use Rattle.std.specs.Prelude.{◌≡◌, List, ℕ, ◌*◌, ◌<◌, length, replicate, Result, Ok}
+use Rattle.refusal.specs.Answered.{refusal_of}
 use Rattle.refusal.specs.declared.Refusal.{Refusal}
 use Rattle.grid.specs.Cells.{cell, EmptyCell}
 use Rattle.grid.specs.Accepted.{grid_refusal}
@@ -8,11 +8,6 @@ use Rattle.theory.specs.Allen.{allen}
 use Rattle.theory.specs.Closing.{Closing}
 use Rattle.plain.specs.declared.End.{End}
 use Rattle.plain.specs.declared.End.TheVariants.{Closed, Contradiction}
-
--- the number of an answer's refusal; 0 is none
-abbrev pub refusal_of : Result End Refusal → ℕ
-refusal_of (Ok e) = 0
-refusal_of (Err r) = number_of r
 
 -- plain closing of the lent cells g answers r and leaves the cells g'
 pub record PlainCloses (n : ℕ) (g : List ℕ) (r : Result End Refusal) (g' : List ℕ) : Type 0 where

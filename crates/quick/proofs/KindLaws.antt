@@ -5,7 +5,7 @@ use Prim.Native.Nat.{ℕ}
 use native.Mathlib.Omega.{arith}
 use lib.ListN.{length}
 use Rattle.std.specs.Prelude.{Result, Ok, Err}
-use Rattle.refusal.specs.Answered.{refused, answers}
+use Rattle.refusal.specs.Answered.{refused, answers, said_of}
 use Rattle.refusal.specs.Numbers.{number_of}
 use Rattle.refusal.specs.declared.Refusal.{Refusal}
 use Rattle.grid.specs.Cells.{cell}
@@ -17,7 +17,7 @@ use Rattle.theory.specs.Closing.{Closing}
 use Rattle.theory.specs.Quick.{Ended, contradiction, closed, paused}
 use Rattle.takes.specs.declared.End.{End}
 use Rattle.takes.specs.declared.End.TheVariants.{Closed, Contradiction, Paused}
-use Rattle.quick.specs.Answers.{said_of, said_by, quick_rule, QuickCloses}
+use Rattle.quick.specs.Answers.{said_by, quick_rule, QuickCloses}
 use Rattle.quick.proofs.RuleLaws.{rule_long}
 use Rattle.quick.proofs.ShowLaws.{Ran, by_rule, by_refusal, ran}
 

@@ -9,10 +9,11 @@ use borrow.Author.Tests.{eq-eqb, ne_eqb}
 use lib.Dec.{eqb}
 use lib.ListN.{replicate}
 use Rattle.std.specs.Prelude.{Result, Ok, Err}
-use Rattle.refusal.specs.Answered.{Answered, refused, answers}
+use Rattle.refusal.specs.Answered.{Answered, refused, answers, said_of}
 use Rattle.refusal.specs.Numbers.{number_of}
 use Rattle.refusal.specs.declared.Refusal.{Refusal}
-use Rattle.refusal.proofs.NumberLaws.{number_pos, number_unique}
+use Rattle.refusal.proofs.NumberLaws.{number_pos}
+use Rattle.refusal.proofs.ResultLaws.{said_unique}
 use Rattle.grid.specs.Cells.{some_empty}
 use Rattle.grid.specs.Accepted.{Accepted, grid_refusal}
 use Rattle.grid.proofs.AcceptedLaws.{accepted-grid}
@@ -23,7 +24,7 @@ use Rattle.theory.specs.Quick.{Ended, contradiction, closed, paused, run}
 use Rattle.takes.specs.Steps.{ended}
 use Rattle.takes.specs.declared.End.{End}
 use Rattle.takes.specs.declared.End.TheVariants.{Closed, Contradiction, Paused}
-use Rattle.quick.specs.Answers.{said_of, said_by, cells_by, quick_rule, ClosedInside, EmptyInside, QuickCloses}
+use Rattle.quick.specs.Answers.{said_by, cells_by, quick_rule, ClosedInside, EmptyInside, QuickCloses}
 use Rattle.quick.specs.Steps.{Shows}
 use Rattle.quick.proofs.RuleLaws.{TakesFew, rule_run, rule_closed, rule_contradiction, rule_few, rule_paused}
 
@@ -94,12 +95,6 @@ closes n limit g r g' e a s =
     }
 
 -- ---- any two outcomes that the statement allows are equal
-
-said_unique : (r s : Result End Refusal) → said_of r ≡ said_of s → r ≡ s
-said_unique (Ok a) (Ok b) e = cc
-said_unique (Err a) (Err b) e = ap Err (number_unique a b cc)
-said_unique (Ok a) (Err b) e = let z : ◌≡◌ {A = ℕ} 0 1 = cc in absurd (omega arith)
-said_unique (Err a) (Ok b) e = let z : ◌≡◌ {A = ℕ} 0 1 = cc in absurd (omega arith)
 
 pub quick_unique : (n limit : ℕ) (g : List ℕ) (r s : Result End Refusal) (h k : List ℕ) → QuickCloses n limit g r h → QuickCloses n limit g s k → (r ≡ s) × (h ≡ k)
 quick_unique n limit g r s h k p q = (said_unique r s (p.answer ∙ sym q.answer), p.cells ∙ sym q.cells)

@@ -1,7 +1,6 @@
 -- Rules 4.3 and 7: the answer and the cells afterwards, for every input.
-use Rattle.std.specs.Prelude.{◌≡◌, cond, List, ℕ, ◌*◌, eqb, replicate, Result, Ok, Err}
-use Rattle.refusal.specs.Answered.{Answered, refused, answers, unless_due}
-use Rattle.refusal.specs.Numbers.{number_of}
+use Rattle.std.specs.Prelude.{◌≡◌, cond, List, ℕ, ◌*◌, eqb, replicate, Result, Ok}
+use Rattle.refusal.specs.Answered.{said_of, unless_due}
 use Rattle.refusal.specs.declared.Refusal.{Refusal}
 use Rattle.grid.specs.Cells.{cell, some_empty, EmptyCell}
 use Rattle.grid.specs.Accepted.{grid_refusal}
@@ -11,11 +10,6 @@ use Rattle.theory.specs.Line.{all_pairs}
 use Rattle.theory.specs.Quick.{Ended, contradiction, closed, paused, run}
 use Rattle.takes.specs.declared.End.{End}
 use Rattle.takes.specs.declared.End.TheVariants.{Closed, Contradiction, Paused}
-
--- closed, contradiction or paused, each with its takes, or the number of a refusal
-abbrev pub said_of : Result End Refusal → Answered End
-said_of (Ok e) = answers e
-said_of (Err r) = refused (number_of r)
 
 -- the rule on an accepted grid: a cell that is empty at the start, or takes from the list of all pairs
 unfoldable pub quick_rule : ℕ → ℕ → List ℕ → Ended

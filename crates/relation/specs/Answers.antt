@@ -1,14 +1,7 @@
 -- Rules 2 and 7: what the two functions on sets hand back.
-use Rattle.std.specs.Prelude.{cond, ◌&&◌, ℕ, ltb, Result, Ok, Err}
-use Rattle.refusal.specs.Answered.{Answered, refused, answers, unless_due}
-use Rattle.refusal.specs.Numbers.{number_of}
+use Rattle.std.specs.Prelude.{cond, ◌&&◌, ℕ, ltb}
+use Rattle.refusal.specs.Answered.{Answered, unless_due}
 use Rattle.relation.specs.Composition.{converse, compose}
-use Rattle.refusal.specs.declared.Refusal.{Refusal}
-
--- a set, or the number of a refusal
-abbrev pub said_of : Result ℕ Refusal → Answered ℕ
-said_of (Ok a) = answers a
-said_of (Err r) = refused (number_of r)
 
 -- a set is one of the numbers 0 to 8191
 abbrev pub how_many_sets : ℕ

@@ -3,12 +3,12 @@
 
 ghost use Rattle.std.specs.Prelude.{ℕ, cond, ltb, ◌≡◌, ◌+◌, ◌-◌, ◌*◌, ◌%◌, ◌^◌, ◌<◌};
 ghost use Rattle.std.specs.Int.Count.{count_trailing_zeros};
-ghost use Rattle.refusal.specs.Answered.{unless_due};
+ghost use Rattle.refusal.specs.Answered.{said_of, unless_due};
 ghost use Rattle.relation.specs.Meaning.{exchanged};
 ghost use Rattle.relation.specs.Sets.{member};
 ghost use Rattle.relation.specs.Composition.{entry, converse, compose};
 ghost use Rattle.relation.specs.Packed.{picked_of, FourAt, PickedAt, RowsFrom, Marked, RowsOf};
-ghost use Rattle.relation.specs.Answers.{said_of, how_many_sets, converse_said, compose_said};
+ghost use Rattle.relation.specs.Answers.{how_many_sets, converse_said, compose_said};
 
 mod table;
 

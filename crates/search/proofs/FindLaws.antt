@@ -9,10 +9,11 @@ use borrow.Author.Tests.{eq-eqb, ne_eqb}
 use lib.Dec.{eqb}
 use lib.IntN.{ℤ}
 use lib.ListN.{length}
-use Rattle.refusal.specs.Answered.{Answered, refused, answers}
+use Rattle.refusal.specs.Answered.{Answered, refused, answers, said_of}
 use Rattle.refusal.specs.Numbers.{number_of}
 use Rattle.refusal.specs.declared.Refusal.{Refusal}
-use Rattle.refusal.proofs.NumberLaws.{number_pos, number_unique}
+use Rattle.refusal.proofs.NumberLaws.{number_pos}
+use Rattle.refusal.proofs.ResultLaws.{said_unique}
 use Rattle.refusal.proofs.AnsweredLaws.{first_next, first-none}
 use Rattle.grid.specs.Cells.{some_empty}
 use Rattle.grid.specs.Accepted.{Accepted, cell_refusal}
@@ -28,7 +29,7 @@ use Rattle.placing.specs.Settling.{settles}
 use Rattle.placing.specs.Checking.{length_refusal}
 use Rattle.placing.proofs.CheckLaws.{lengths, length-right}
 use Rattle.search.specs.Rule.{there_at, try_at, search_at, search_of, from_closed}
-use Rattle.search.specs.Answers.{said_of, search_refusal, said_by, room_by, Looks}
+use Rattle.search.specs.Answers.{search_refusal, said_by, room_by, Looks}
 use Rattle.quick.specs.Steps.{ClosedGrid}
 use Rattle.search.specs.Steps.{Shows}
 use Rattle.search.specs.declared.Looked.{Looked}
@@ -99,12 +100,6 @@ taken n g m e =
     record { grid = accepted n g (size-fine n g l.few l.long) w.1; room = l.numbers }
 
 -- ---- any two outcomes that the statement allows are equal
-
-said_unique : (r s : Result Looked Refusal) → said_of r ≡ said_of s → r ≡ s
-said_unique (Ok l) (Ok m) e = cc
-said_unique (Err a) (Err b) e = ap Err (number_unique a b (cc))
-said_unique (Ok l) (Err b) e = absurd (cc)
-said_unique (Err a) (Ok m) e = absurd (cc)
 
 pub looks_unique : (n a : ℕ) (g : List ℕ) (room h k : List ℤ) (r s : Result Looked Refusal) → Looks n a g room r h → Looks n a g room s k → (r ≡ s) × (h ≡ k)
 looks_unique n a g room h k r s p q = (said_unique r s (p.answer ∙ sym q.answer), p.room_after ∙ sym q.room_after)

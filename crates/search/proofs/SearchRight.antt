@@ -13,7 +13,7 @@ use Rattle.relation.specs.Meaning.{Event}
 use Rattle.relation.specs.Sets.{member}
 use Rattle.relation.proofs.Rank.{In as Among, here, there}
 use Rattle.relation.proofs.Relations.{exactly_one}
-use Rattle.refusal.specs.Answered.{answers}
+use Rattle.refusal.specs.Answered.{answers, said_of}
 use Rattle.grid.specs.Cells.{cell, some_empty}
 use Rattle.grid.specs.Accepted.{Accepted}
 use Rattle.grid.specs.Meets.{Meets}
@@ -37,7 +37,7 @@ use Rattle.placing.specs.Placing.{Places}
 use Rattle.placing.specs.Settling.{settles, placing_of}
 use Rattle.placing.proofs.SettleLaws.{settled-meets, placing-length, placing_gapless}
 use Rattle.search.specs.Rule.{there_at, try_at, search_at, search_of, from_closed}
-use Rattle.search.specs.Answers.{said_of, said_by, room_by, ScenarioOf, FirstPlacing, Meant}
+use Rattle.search.specs.Answers.{said_by, room_by, ScenarioOf, FirstPlacing, Meant}
 use Rattle.search.specs.declared.Looked.{Looked}
 use Rattle.refusal.specs.declared.Refusal.{Refusal}
 use Rattle.std.proofs.Common.{Result, Ok, Err}

@@ -1,7 +1,6 @@
 -- Rules 5.2 and 7: the answer and the room afterwards, for every input.
 use Rattle.std.specs.Prelude.{◌≡◌, cond, List, ℕ, ◌*◌, eqb, ℤ, length, Result, Ok, Err}
-use Rattle.refusal.specs.Answered.{Answered, refused, answers, unless_due, first_of}
-use Rattle.refusal.specs.Numbers.{number_of}
+use Rattle.refusal.specs.Answered.{said_of, unless_due, first_of}
 use Rattle.refusal.specs.declared.Refusal.{Refusal}
 use Rattle.relation.specs.Meaning.{Event, Holds}
 use Rattle.grid.specs.Accepted.{cell_refusal}
@@ -14,11 +13,6 @@ use Rattle.search.specs.Rule.{search_of}
 use Rattle.search.specs.declared.Outcome.{Outcome}
 use Rattle.search.specs.declared.Outcome.TheVariants.{Placed, None, GaveUp}
 use Rattle.search.specs.declared.Looked.{Looked}
-
--- placed, none or gave up, each with its tries, or the number of a refusal
-abbrev pub said_of : Result Looked Refusal → Answered Looked
-said_of (Ok l) = answers l
-said_of (Err r) = refused (number_of r)
 
 -- an outcome with so many tries
 abbrev pub looked : Outcome → ℕ → Looked

@@ -3,7 +3,8 @@
 
 ghost use Rattle.std.specs.Prelude.{◌≡◌, [], Ok, ◌*◌, ◌≤◌, ◌<◌, length, take};
 ghost use Rattle.grid.specs.Cells.{Held};
-ghost use Rattle.grid.specs.Accepted.{Accepted, judged_number};
+ghost use Rattle.refusal.specs.Answered.{refusal_of};
+ghost use Rattle.grid.specs.Accepted.{Accepted};
 ghost use Rattle.theory.specs.Fair.{Fair};
 ghost use Rattle.theory.specs.Allen.{allen};
 ghost use Rattle.theory.specs.Search.{closes_to};
@@ -208,7 +209,7 @@ pub fn search_accepted(g: &[u16], n: usize, allowance: u32, room: &mut [i32]) ->
 
 // Refusals 1, 2, 6, 3, 4 and 5 of a grid and a room of so many numbers.
 fn judge(g: &[u16], n: usize, numbers: usize) -> Result<(), Refusal>
-    ensures { judged_number result ≡ search_refusal n g.now numbers }
+    ensures { refusal_of result ≡ search_refusal n g.now numbers }
 {
     placing::sized(g, n, numbers)?.judge_cells()
 }

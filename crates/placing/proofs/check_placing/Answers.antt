@@ -5,7 +5,7 @@ use mathlib.Core.List.{List}
 use Prim.Native.Nat.{ℕ}
 use lib.IntN.{ℤ}
 use Rattle.std.proofs.Common.{Ok}
-use Rattle.grid.proofs.JudgedLaws.{judged_accepted}
+use Rattle.refusal.proofs.ResultLaws.{none_refused}
 use Rattle.placing.specs.Placing.{at}
 use Rattle.placing.specs.Checking.{check_refusal, CheckSays}
 use Rattle.placing.specs.Settling.{some_missed}
@@ -20,10 +20,10 @@ answered n g xs false z e = (z, list_meets n g xs (check_on_time n g xs z) (sym 
 
 pub some_missed-requires : goal.some_missed-requires
 some_missed-requires c =
-    let s = check_lengths _ _ _ (judged_accepted _ _ c.judged.ensures.refusal c.in_ok-grid.was) in
+    let s = check_lengths _ _ _ (none_refused _ _ c.judged.ensures.refusal c.in_ok-grid.was) in
     omega (arith, c.in_ok-grid.ensures.same.0)
 
 pub returns : goal.returns
 returns c =
-    answered _ _ _ _ (judged_accepted _ _ c.judged.ensures.refusal c.in_ok-grid.was)
+    answered _ _ _ _ (none_refused _ _ c.judged.ensures.refusal c.in_ok-grid.was)
     (rw (c.in_ok-grid.ensures.same.0, c.in_ok-grid.ensures.same.1) at c.some_missed.ensures)

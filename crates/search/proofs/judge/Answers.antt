@@ -1,7 +1,7 @@
 -- The cells are looked at only where the lengths are right.
 use mathlib.Core.Path.{sym, ◌∙◌}
 use Rattle.refusal.proofs.AnsweredLaws.{first_next}
-use Rattle.grid.proofs.JudgedLaws.{judged_accepted}
+use Rattle.refusal.proofs.ResultLaws.{none_refused}
 use Rattle.search.specs.Answers.{search_refusal}
 use borrow.Author.Rules.{rules}
 use Rattle.search.proofs.judge.Goals as goal
@@ -14,4 +14,4 @@ pub returns : goal.returns
 unfolding search_refusal
 returns c =
     rw (c.in_ok-sized.ensures.same.0, c.in_ok-sized.ensures.same.1) at c.judge_cells.ensures
-    ∙ sym (first_next _ _ (judged_accepted _ _ c.sized.ensures.refusal c.in_ok-sized.was))
+    ∙ sym (first_next _ _ (none_refused _ _ c.sized.ensures.refusal c.in_ok-sized.was))
