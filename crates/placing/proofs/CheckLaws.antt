@@ -4,7 +4,7 @@ use mathlib.Core.Bool.{Bool, true, false, cond}
 use mathlib.Core.List.{List}
 use Prim.Native.Nat.{ℕ, ◌*◌, ◌≤◌, ◌<◌}
 use native.Mathlib.Omega.{arith}
-use borrow.Author.Tests.{eq-eqb, ne_eqb, eqb-true}
+use borrow.Author.Tests.{eq-eqb, eqb-true}
 use lib.Dec.{eqb}
 use lib.ListN.{length}
 use lib.IntN.{ℤ}
@@ -25,14 +25,9 @@ module _ (n : ℕ) (g : List ℕ) (m : ℕ) where
   unfolding length_refusal
   length-size k e h = first_here (size_refusal n g) (cond (eqb m (2 * n)) 0 6) (omega arith) ∙ e
 
-  module _ (s : size_refusal n g ≡ 0) where
-    pub length_wrong : (m ≡ 2 * n → ⊥) → length_refusal n g m ≡ 6
-    unfolding length_refusal
-    length_wrong ne = first_next (size_refusal n g) (cond (eqb m (2 * n)) 0 6) s ∙ ap (λ (x : Bool). cond {A = ℕ} x 0 6) (ne_eqb m (2 * n) ne)
-
-    pub length-right : m ≡ 2 * n → length_refusal n g m ≡ 0
-    unfolding length_refusal
-    length-right e = first_next (size_refusal n g) (cond (eqb m (2 * n)) 0 6) s ∙ ap (λ (x : Bool). cond {A = ℕ} x 0 6) (eq-eqb m (2 * n) e)
+  pub length-right : size_refusal n g ≡ 0 → m ≡ 2 * n → length_refusal n g m ≡ 0
+  unfolding length_refusal
+  length-right s e = first_next (size_refusal n g) (cond (eqb m (2 * n)) 0 6) s ∙ ap (λ (x : Bool). cond {A = ℕ} x 0 6) (eq-eqb m (2 * n) e)
 
   -- no refusal for the lengths
   pub record Lengths : Type 0 where
@@ -59,15 +54,6 @@ module _ (n : ℕ) (g : List ℕ) (xs : List ℤ) where
   unfolding rest_refusal
   rest-cell k e h = first_here (cell_refusal n g) (cond (some_late n (at xs)) 7 0) (omega arith) ∙ e
 
-  module _ (e : cell_refusal n g ≡ 0) where
-    pub rest-late : some_late n (at xs) ≡ true → rest_refusal n g xs ≡ 7
-    unfolding rest_refusal
-    rest-late l = first_next (cell_refusal n g) (cond (some_late n (at xs)) 7 0) e ∙ ap (λ (x : Bool). cond {A = ℕ} x 7 0) l
-
-    pub rest-none : some_late n (at xs) ≡ false → rest_refusal n g xs ≡ 0
-    unfolding rest_refusal
-    rest-none l = first_next (cell_refusal n g) (cond (some_late n (at xs)) 7 0) e ∙ ap (λ (x : Bool). cond {A = ℕ} x 7 0) l
-
   rest_on_time : rest_refusal n g xs ≡ 0 → some_late n (at xs) ≡ false
   unfolding rest_refusal
   rest_on_time e = go (some_late n (at xs)) (first-none (cell_refusal n g) (cond (some_late n (at xs)) 7 0) e).1
@@ -83,10 +69,6 @@ module _ (n : ℕ) (g : List ℕ) (xs : List ℤ) where
   pub check_length : (k : ℕ) → length_refusal n g (length xs) ≡ k → 0 < k → check_refusal n g xs ≡ k
   unfolding check_refusal
   check_length k e h = first_here (length_refusal n g (length xs)) (rest_refusal n g xs) (omega arith) ∙ e
-
-  pub check_rest : length_refusal n g (length xs) ≡ 0 → check_refusal n g xs ≡ rest_refusal n g xs
-  unfolding check_refusal
-  check_rest e = first_next (length_refusal n g (length xs)) (rest_refusal n g xs) e
 
   -- none: the lengths are right, and no start is late
   pub check_lengths : check_refusal n g xs ≡ 0 → Lengths n g (length xs)

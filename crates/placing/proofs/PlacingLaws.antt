@@ -12,7 +12,7 @@ use Rattle.relation.specs.Comparing.{rel_of}
 use Rattle.relation.specs.Meaning.{Event}
 use Rattle.relation.specs.Sets.{member}
 use Rattle.relation.proofs.Tested.{T_of, of_T, some_no}
-use Rattle.relation.proofs.Relations.{rel_by_lt, rel_of_lt, exactly_one, holds_found}
+use Rattle.relation.proofs.Relations.{rel_of_lt, exactly_one, holds_found}
 use Rattle.grid.specs.Cells.{cell}
 use Rattle.grid.proofs.AcceptedLaws.{none_passes}
 use Rattle.grid.specs.Meets.{Meets}
@@ -58,9 +58,6 @@ event_end a b h = go (lt_z a b) refl h
     go false e k = absurd (subst T (sym k) tt)
 
 -- ---- the two tests
-
-pub relation_at_lt : (v : ℕ → ℤ) (i j : ℕ) → relation_at v i j < 13
-relation_at_lt v i j = rel_by_lt lt_z (v (2 * i)) (v (2 * i + 1)) (v (2 * j)) (v (2 * j + 1))
 
 module _ (n : ℕ) (v : ℕ → ℤ) where
   -- the relation found is the one that holds

@@ -3,13 +3,10 @@ use mathlib.Core.Bool.{Bool, true, false, cond}
 use mathlib.Core.Path.{◌≡◌, refl, ap, ap₂, ◌∙◌}
 use Rattle.std.proofs.Common.{int_cmp, Ordering, Less, Equal, Greater}
 use Prim.Native.Nat.{◌^◌, ◌<◌}
-use native.Mathlib.Nat.{not-suc-le-zero}
-use native.Mathlib.Omega.{arith}
-use lib.Dec.{T, ltb→lt}
-use lib.IntN.{ℤ, pos, negsuc, nat_abs}
-use lib.Signed.{mag, lt_z, non_neg}
+use lib.IntN.{ℤ}
+use lib.Signed.{mag, lt_z}
 use mir.Syntax.{w32}
-use mir.Val.{to_z, of_z, hbits, Fits}
+use mir.Val.{to_z, of_z, hbits}
 use mir.Facts.{to_z-of_z}
 use Rattle.relation.specs.Comparing.{order}
 use Rattle.placing.specs.Steps.{order_of}
@@ -26,10 +23,7 @@ pub back_is : (x : ℤ) → Small x → back x ≡ x
 back_is x h = to_z-of_z {w = w32} (record { sfits = h })
 
 module _ (x y : ℤ) (hx : Small x) (hy : Small y) where
-  pub lt_z_back : lt_z (back x) (back y) ≡ lt_z x y
-  lt_z_back = ap₂ (λ (p q : ℤ). lt_z p q) {x = back x} {y = x} {u = back y} {v = y} (back_is x hx) (back_is y hy)
-
-  pub cmp_back : cmp (back x) (back y) ≡ cmp x y
+  cmp_back : cmp (back x) (back y) ≡ cmp x y
   cmp_back = ap₂ (λ (p q : ℤ). cmp p q) {x = back x} {y = x} {u = back y} {v = y} (back_is x hx) (back_is y hy)
 
 -- what a comparison told, of the numbers themselves

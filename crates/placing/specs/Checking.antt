@@ -3,10 +3,10 @@ use Rattle.std.specs.Prelude.{◌≡◌, Bool, true, false, not, cond, List, ℕ
 use Rattle.std.specs.Int.Signed.{lt_z}
 use Rattle.refusal.specs.Answered.{first_of}
 use Rattle.refusal.specs.Numbers.{number_of}
+use Rattle.refusal.specs.declared.Refusal.{Refusal}
 use Rattle.relation.specs.Sets.{some}
 use Rattle.grid.specs.Accepted.{size_refusal, cell_refusal}
 use Rattle.placing.specs.Placing.{at, MeetsAt}
-use Rattle.refusal.specs.declared.Refusal.{Refusal}
 
 -- 1, then 2, then 6 for a placing, or room for one, of m numbers; 0 is none
 unfoldable pub length_refusal : ℕ → List ℕ → ℕ → ℕ

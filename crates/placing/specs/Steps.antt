@@ -1,11 +1,12 @@
 -- What only the inner functions of this crate cite.
-use Rattle.std.specs.Prelude.{◌≡◌, List, ℕ, ◌*◌, ◌≤◌, ◌<◌, length, get_or, ℤ}
+use Rattle.std.specs.Prelude.{◌≡◌, List, ℕ, ◌*◌, ◌≤◌, ◌<◌, get_or, ℤ}
+use Rattle.std.specs.declared.cmp.Ordering.{Ordering}
+use Rattle.std.specs.declared.cmp.Ordering.TheVariants.{Less, Equal, Greater}
 use Rattle.relation.specs.Comparing.{Order, less, same, more}
 use Rattle.placing.specs.Placing.{at}
 use Rattle.placing.specs.Settling.{ends_before, values_below, gapless_end}
-use Rattle.std.specs.declared.cmp.Ordering.{Ordering}
-use Rattle.std.specs.declared.cmp.Ordering.TheVariants.{Less, Equal, Greater}
 
+-- how two numbers compare, in the words of Comparing
 abbrev pub order_of : Ordering → Order
 order_of Less = less
 order_of Equal = same

@@ -29,6 +29,7 @@ pub fn check_placing(g: &[u16], n: usize, placing: &[i32]) -> Result<bool, Refus
 }
 
 // A grid of n events with a placing, or room for one, of so many numbers; else refusal 1, 2 or 6.
+#[tactic(auto, unfolding(crate::specs::Checking::length_refusal))]
 pub fn sized<'a>(g: &'a [u16], n: usize, numbers: usize) -> Result<Grid<'a>, Refusal>
     ensures refusal { refusal_of result ≡ length_refusal n g.entry.now numbers }
     ensures same { IfOk result (λ x. (x.n ≡ n) × (x.cells ≡ g.entry)) }
@@ -41,6 +42,7 @@ pub fn sized<'a>(g: &'a [u16], n: usize, numbers: usize) -> Result<Grid<'a>, Ref
 }
 
 // A grid of n events and a placing that can be checked; else refusal 1, 2, 6, 3, 4, 5 or 7, in this order.
+#[tactic(auto, unfolding(crate::specs::Checking::check_refusal))]
 fn judged<'a>(g: &'a [u16], n: usize, placing: &[i32]) -> Result<Grid<'a>, Refusal>
     ensures refusal { refusal_of result ≡ check_refusal n g.entry.now placing.now }
     ensures same { IfOk result (λ x. (x.n ≡ n) × (x.cells ≡ g.entry)) }
@@ -51,6 +53,7 @@ fn judged<'a>(g: &'a [u16], n: usize, placing: &[i32]) -> Result<Grid<'a>, Refus
 }
 
 // Refusals 3, 4, 5 and 7 of a grid and a placing of its length.
+#[tactic(auto, unfolding(crate::specs::Checking::rest_refusal))]
 fn judge_rest(grid: Grid, placing: &[i32]) -> Result<(), Refusal>
     requires { 2 * grid.n ≤ length placing.now }
     ensures { refusal_of result ≡ rest_refusal grid.entry.n grid.entry.cells.now placing.now }

@@ -60,7 +60,7 @@ module _ (n : ℕ) (g : List ℕ) (a : Accepted n g) where
               subst (λ (x : List ℕ). Closing allen n (cell n g) (cell n x)) (sym w.1)
               (closing_same allen lawful n (cell n g) (λ i j. 0) (cell n (replicate (n * n) 0)) (λ i j hi hj. sym (cell_cleared n (n * n) i j))
               (none_left w.0));
-          closed = λ q. let z : ◌≡◌ {A = ℕ} 0 1 = cc in absurd (omega arith);
+          closed = λ q h. cc;
           contradiction = λ q.
               (subst (EmptyCell n) (sym w.1) (cleared_empty n (some_event w.0)), w.1);
         }
@@ -74,23 +74,12 @@ module _ (n : ℕ) (g : List ℕ) (a : Accepted n g) where
           long = l;
           largest = λ z. still-closed allen lawful n g eq_lawful g' G w.2;
           closed = λ q h. G.full h.0 h.1 h.2 h.3 h.4;
-          contradiction = λ q. let z : ◌≡◌ {A = ℕ} 0 1 = cc in absurd (omega arith);
+          contradiction = λ q. cc;
         }
 
     pub closes : (r : End) → Sweeps n g r g' → PlainCloses n g (Ok r) g'
     closes Closed w = swept w
     closes Contradiction w = cleared w
-
-pub refuses : (n : ℕ) (g : List ℕ) (r : Refusal) → number_of r ≡ grid_refusal n g → PlainCloses n g (Err r) g
-refuses n g r e =
-    record {
-      refusal = e;
-      kept = λ k. refl;
-      long = refl;
-      largest = λ z. let p = number_pos r in absurd (omega arith);
-      closed = λ q. let z : ◌≡◌ {A = ℕ} 0 1 = cc in absurd (omega arith);
-      contradiction = λ q. let z : ◌≡◌ {A = ℕ} 0 1 = cc in absurd (omega arith);
-    }
 
 -- ---- the kind of the answer and the cells are those of the given grid's closing
 
@@ -117,12 +106,12 @@ kind_unique : (r s : Result End Refusal) → plain_kind r ≡ plain_kind s → r
 kind_unique (Ok Closed) (Ok Closed) e = refl
 kind_unique (Ok Contradiction) (Ok Contradiction) e = refl
 kind_unique (Err r) (Err s) e = ap Err (number_unique r s (cc))
-kind_unique (Ok Closed) (Ok Contradiction) e = let z : ◌≡◌ {A = ℕ} 0 1 = cc in absurd (omega arith)
-kind_unique (Ok Closed) (Err s) e = let z : ◌≡◌ {A = ℕ} 0 1 = cc in absurd (omega arith)
-kind_unique (Ok Contradiction) (Ok Closed) e = let z : ◌≡◌ {A = ℕ} 0 1 = cc in absurd (omega arith)
-kind_unique (Ok Contradiction) (Err s) e = let z : ◌≡◌ {A = ℕ} 0 1 = cc in absurd (omega arith)
-kind_unique (Err r) (Ok Closed) e = let z : ◌≡◌ {A = ℕ} 0 1 = cc in absurd (omega arith)
-kind_unique (Err r) (Ok Contradiction) e = let z : ◌≡◌ {A = ℕ} 0 1 = cc in absurd (omega arith)
+kind_unique (Ok Closed) (Ok Contradiction) e = cc
+kind_unique (Ok Closed) (Err s) e = cc
+kind_unique (Ok Contradiction) (Ok Closed) e = cc
+kind_unique (Ok Contradiction) (Err s) e = cc
+kind_unique (Err r) (Ok Closed) e = cc
+kind_unique (Err r) (Ok Contradiction) e = cc
 
 pub plain_unique : (n : ℕ) (g : List ℕ) (r s : Result End Refusal) (h k : List ℕ) → PlainCloses n g r h → PlainCloses n g s k → (r ≡ s) × (h ≡ k)
 plain_unique n g r s h k p q =

@@ -3,7 +3,7 @@ use mathlib.Core.Path.{◌≡◌, refl, ap, sym, ◌∙◌, subst}
 use mathlib.Core.Logic.{◌⊎◌, inl, inr}
 use mathlib.Core.List.{List}
 use mathlib.Core.Bool.{Bool, true, false, ◌||◌}
-use Prim.Native.Nat.{ℕ, ◌+◌, ◌≤◌, ◌<◌}
+use Prim.Native.Nat.{ℕ, ◌+◌, ◌<◌}
 use native.Mathlib.Decide.{dec_lt}
 use native.Mathlib.Omega.{arith}
 use lib.Bits.{bit_and}
@@ -17,7 +17,7 @@ use Rattle.theory.specs.Quick.{cut_to}
 use Rattle.theory.specs.Sweeps.{Distinct, Progress, DeadEnd, Shrinks, none}
 use Rattle.theory.proofs.AllenLaws.{lawful, sized, eq_lawful}
 use Rattle.theory.proofs.PlainLaws.{progress_none, progress_one, progress_then}
-use Rattle.plain.specs.Routes.{OverTo, EventTo, AllTo, Still, StillUntil, Changes}
+use Rattle.plain.specs.Routes.{OverTo, EventTo, AllTo, Changes}
 
 -- the next part of a sweep
 module _ (n : ℕ) (g g₁ g₂ : List ℕ) (c d : Bool) (F : Fair allen n g) where
@@ -57,37 +57,6 @@ then_cut n S T g g₁ g₂ c F F₁ p s =
     or_true true = refl
     or_true false = refl
 
--- routes that leave their cell as it is, passed over
-module _ (n m b k r : ℕ) (g : List ℕ) where
-  pub still-from : k ≤ b → StillUntil n m b g k k
-  still-from h = record { from = omega arith; within = h; each = λ a l u. absurd (omega arith) }
-
-  pub still-more : r < b → StillUntil n m b g k r → Still n m b g r → StillUntil n m b g k (r + 1)
-  still-more h w s = record { from = omega (arith, w.from); within = omega arith; each = λ a l u. go a l u (dec_lt a r) }
-    where
-      go : (a : ℕ) → k ≤ a → a < r + 1 → Dec (a < r) → Still n m b g a
-      go a l u (yes v) = w.each a l v
-      go a l u (no v) = let e : a ≡ r = omega arith in subst (Still n m b g) (sym e) s
-
-pub over_passed : (n m b k r : ℕ) (g g₁ : List ℕ) (c : Bool) → Fair allen n g → Fair allen n g₁ → Progress allen ones n (OverTo n m b k) g g₁ c → StillUntil n m b g₁ k r
-    → Progress allen ones n (OverTo n m b r) g g₁ c
-over_passed n m b k r g g₁ c F F₁ p w =
-    subst (Progress allen ones n (OverTo n m b r) g g₁) (or_false c)
-    (progress_then allen lawful ones sized n F.fine.few (OverTo n m b k) Between g g₁ g₁ c false F.fine.fits p
-    (nothing n Between g₁ F₁ (λ x y z u. rw (u.2, u.3) (w.each x u.0 u.1))) (OverTo n m b r)
-    (λ x y z u. go x y z u (dec_lt x k)))
-  where
-    Between : ℕ → ℕ → ℕ → Type 0
-    Between x y z = (k ≤ x) × (x < r) × (y ≡ m) × (z ≡ b)
-
-    or_false : (c : Bool) → (c || false) ≡ c
-    or_false true = refl
-    or_false false = refl
-
-    go : (x y z : ℕ) → OverTo n m b r x y z → Dec (x < k) → OverTo n m b k x y z ⊎ Between x y z
-    go x y z u (yes h) = inl (h, u.1, u.2, u.3)
-    go x y z u (no h) = inr (omega arith, u.0, u.1, u.2)
-
 -- a route that changes its cell
 module _ (n m b a set : ℕ) (g : List ℕ) (F : Fair allen n g) (k : Changes n m b g a set) (lo : a < b) (hm : m < n) (hb : b < n) (mb : m ≡ b → ⊥) where
   -- it goes over a third event, since eq with a set leaves the set
@@ -121,9 +90,3 @@ module _ (n m b a set : ℕ) (g : List ℕ) (F : Fair allen n g) (k : Changes n 
     -- and it leaves cell (m, b)
     pub half-same : cell n g' m b ≡ cell n g m b
     half-same = ap (λ (x : List ℕ). cell n x m b) q ∙ cell_both_other converse n g F.fine.fits a b set (omega arith) hb m b hb (λ e. apart (sym e.0)) (λ e. mb e.0)
-
--- a sweep without a change: no route changes a cell
-pub all-still : (n : ℕ) (g g' : List ℕ) (c : Bool) → c ≡ false → Progress allen ones n (AllTo n n) g g' c → (a m b : ℕ) → a < b → Distinct n a b m → cut_to allen (cell n g') a m b ≡ cell n g' a b
-all-still n g g' c e p a m b h d =
-    let s = p.still e in
-    subst (λ (x : List ℕ). cut_to allen (cell n x) a m b ≡ cell n x a b) (sym s.0) (s.1 a m b (h, d.hb, d))

@@ -2,10 +2,10 @@
 use Rattle.std.specs.Prelude.{◌≡◌, ◌⊎◌, Bool, true, false, List, ℕ, ◌*◌, ◌≤◌, ◌<◌, replicate, Option, Some, None, Result, Ok, Err}
 use Rattle.std.specs.Int.Count.{ones}
 use Rattle.grid.specs.Cells.{cell, some_empty}
+use Rattle.grid.specs.declared.Emptied.{Emptied}
 use Rattle.theory.specs.Allen.{allen}
 use Rattle.theory.specs.Quick.{cut_to}
 use Rattle.theory.specs.Sweeps.{Distinct, Cuts, DeadEnd, Progress}
-use Rattle.grid.specs.declared.Emptied.{Emptied}
 use Rattle.plain.specs.declared.End.{End}
 use Rattle.plain.specs.declared.End.TheVariants.{Closed, Contradiction}
 

@@ -1,5 +1,4 @@
 use mathlib.Core.Path.{◌≡◌}
-use Prim.Native.Nat.{◌-◌, ◌*◌, ◌≤◌}
 use lib.ListN.{length}
 use Rattle.placing.proofs.FillLaws.{Filled}
 use Rattle.placing.specs.Settling.{ends_before}

@@ -1,5 +1,5 @@
 use mathlib.Core.Path.{◌≡◌}
-use Prim.Native.Nat.{◌-◌, ◌*◌, ◌≤◌}
+use Prim.Native.Nat.{◌≤◌}
 use Rattle.placing.specs.Settling.{end_before, count}
 use Rattle.placing.proofs.ends_before.Given as goal
 

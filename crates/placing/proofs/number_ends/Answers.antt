@@ -8,7 +8,6 @@ use mir.Facts.{to_z_pos}
 use Rattle.placing.specs.Settling.{gapless_end}
 use Rattle.placing.proofs.StepLaws.{looked_up}
 use Rattle.placing.proofs.EntryLaws.{holds_more}
-use borrow.Author.Rules.{rules}
 use native.Mathlib.Omega.{arith}
 use Rattle.placing.proofs.number_ends.Goals as goal
 

@@ -1,5 +1,4 @@
 use mathlib.Core.Path.{◌≡◌}
-use Prim.Native.Nat.{◌-◌, ◌*◌, ◌≤◌}
 use lib.ListN.{length}
 use Rattle.placing.specs.Settling.{gapless_end}
 use Rattle.placing.specs.Steps.{most_ends}

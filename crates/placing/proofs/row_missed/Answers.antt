@@ -1,12 +1,11 @@
 -- No cell of the row passed so far is missed.
 use mathlib.Core.Path.{◌≡◌, sym, ap, ap₂, subst, ◌∙◌}
 use mathlib.Core.Bool.{not}
-use Prim.Native.Nat.{ℕ, ◌<◌}
+use Prim.Native.Nat.{ℕ}
 use Rattle.relation.specs.Sets.{member}
 use Rattle.relation.proofs.Tested.{NoneBelow, none_more, some_yes, some_no}
 use Rattle.placing.specs.Placing.{at}
 use Rattle.placing.specs.Settling.{missed}
-use Rattle.placing.proofs.PlacingLaws.{relation_at_lt}
 use borrow.Author.Rules.{rules}
 use native.Mathlib.Omega.{arith}
 use Rattle.placing.proofs.row_missed.Goals as goal

@@ -1,4 +1,3 @@
-use Prim.Native.Nat.{◌-◌, ◌≤◌}
 use Rattle.relation.proofs.Tested.{NoneBelow}
 use Rattle.placing.specs.Placing.{at}
 use Rattle.placing.specs.Checking.{late}

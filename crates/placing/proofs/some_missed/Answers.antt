@@ -1,6 +1,6 @@
 -- No row passed so far has a missed cell.
 use mathlib.Core.Path.{◌≡◌, sym, subst, ◌∙◌}
-use Rattle.relation.proofs.Tested.{NoneBelow, none_more, some_yes, some_no}
+use Rattle.relation.proofs.Tested.{NoneBelow, some_yes, some_no}
 use Rattle.placing.specs.Placing.{at}
 use Rattle.placing.specs.Settling.{row_missed}
 use borrow.Author.Rules.{rules}

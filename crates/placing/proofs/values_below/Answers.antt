@@ -14,7 +14,6 @@ use Rattle.placing.proofs.FillLaws.{Filled, filled_more}
 use Rattle.placing.specs.Settling.{is_value, values_below}
 use Rattle.placing.specs.Steps.{most_ends}
 use Rattle.placing.proofs.GaplessLaws.{values_none, values_le, values_step}
-use borrow.Author.Rules.{rules}
 use native.Mathlib.Omega.{arith}
 use Rattle.placing.proofs.values_below.Goals as goal
 
