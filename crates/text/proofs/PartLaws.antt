@@ -1,15 +1,19 @@
 -- Laws of the parts of a text.
 use Prim.Native.Nat.{ℕ, zero, suc, ◌+◌, ◌-◌, ◌≤◌, ◌<◌}
-use mathlib.Core.Path.{◌≡◌, refl, sym}
+use mathlib.Core.Path.{◌≡◌, refl, sym, ap, ◌∙◌}
 use mathlib.Core.Bool.{Bool, true, false, cond}
 use mathlib.Core.List.{List, [], ◌∷◌}
 use native.Mathlib.Omega.{arith}
 use native.Mathlib.Decide.{dec_lt}
 use native.Mathlib.Numerals.{add-one}
 use native.Mathlib.Nat.{sub-zero}
-use lib.Dec.{eqb}
+use lib.Dec.{eqb, ltb}
 use lib.ListN.{length, take, drop, get_or, drop_of_length-le, length-drop}
 use lib.Seq.{drop-cons, drop-drop, drop-nil, take_all, take-nil, length-take-le}
+use Rattle.std.specs.Prelude.{Option, Some, None, position, ◌==◌}
+use Rattle.std.specs.List.{position_or_len}
+use Rattle.std.proofs.lemmas.Bool.Decides.{nat_tests}
+use Rattle.std.proofs.lemmas.List.Recursion.{is_position_or_len}
 use borrow.Author.Tests.{lt-ltb, le-ltb, eq-eqb, ne_eqb}
 use Rattle.text.specs.Text.{split, onto}
 use Rattle.text.specs.Steps.{after, PartEnd}
@@ -21,17 +25,10 @@ abbrev pub until : ℕ → List ℕ → ℕ
 until c [] = zero
 until c (x ∷ xs) = cond (eqb x c) zero (suc (until c xs))
 
-module _ (c : ℕ) (s : List ℕ) (i : ℕ) where
-  pub until_stop : i < length s → get_or s i 0 ≡ c → until c (drop i s) ≡ 0
-  until_stop h e = rw (drop-cons s i 0, eq-eqb _ _ e)
+until_position : (c : ℕ) (xs : List ℕ) → until c xs ≡ position_or_len (λ x. x == c) xs
+until_position c = is_position_or_len (until c) (λ x. x == c) refl (λ x xs. let e : suc (until c xs) ≡ 1 + until c xs = omega arith in ap (cond (eqb x c) 0) e)
 
-  pub until_more : i < length s → (get_or s i 0 ≡ c → ⊥) → until c (drop i s) ≡ 1 + until c (drop (i + 1) s)
-  until_more h e = rw (drop-cons s i 0, ne_eqb _ _ e, add-one) (omega arith)
-
-  pub until_end : length s ≤ i → until c (drop i s) ≡ 0
-  until_end h = rw drop_of_length-le
-
-until_le : (c : ℕ) (xs : List ℕ) → until c xs ≤ length xs
+pub until_le : (c : ℕ) (xs : List ℕ) → until c xs ≤ length xs
 until_le c [] = omega arith
 until_le c (x ∷ xs) = by (eqb x c) (until_le c xs)
   where
@@ -40,6 +37,9 @@ until_le c (x ∷ xs) = by (eqb x c) (until_le c xs)
     by false i = omega arith
 
 -- ---- the first part, and the others
+
+pub take_rest : (s : List ℕ) (a : ℕ) → take (length s - a) (drop a s) ≡ drop a s
+take_rest s a = take_all (length s - a) (drop a s) (omega (arith, length-drop a s))
 
 -- the first part is what stands before the first c, and the others are those of what stands after it
 split-next : (c : ℕ) (xs : List ℕ) → until c xs < length xs → split c xs ≡ take (until c xs) xs ∷ split c (drop (until c xs + 1) xs)
@@ -84,6 +84,27 @@ part_end c s a e h q =
       ];
     }
 
+-- the first c of the rest is what `position` answers
+module _ (c : ℕ) (s : List ℕ) (a : ℕ) (h : a ≤ length s) (r : Option ℕ) (e : r ≡ position (λ x. x == c) (take (length s - a) (drop a s))) where
+  found : r ≡ cond (ltb (until c (drop a s)) (length (drop a s))) (Some (until c (drop a s))) None
+  found = rw (until_position c (drop a s), ← take_rest s a) e
+
+  pub part_found : (k : ℕ) → r ≡ Some k → PartEnd c s a (a + k)
+  part_found k q = part_end c s a (a + k) h (ap (λ (i : ℕ). a + i) (by (ltb (until c (drop a s)) (length (drop a s))) (sym q ∙ found)))
+    where
+      by : {u : ℕ} (t : Bool) → Some k ≡ cond t (Some u) None → k ≡ u
+      by true e = cc
+      by false e = absurd (cc)
+
+  pub part_open : r ≡ None → PartEnd c s a (length s)
+  part_open q =
+      let le = until_le c (drop a s) in
+      let n = length-drop a s in
+      elim (dec_lt (until c (drop a s)) (length (drop a s))) [
+        | yes l ↦ let f : r ≡ Some (until c (drop a s)) = rw (lt-ltb _ _ l) at found in absurd (cc)
+        | no l ↦ part_end c s a (length s) h (omega arith)
+      ]
+
 -- the part has the bytes from a up to e
 pub part_length : (c : ℕ) (s : List ℕ) (a e : ℕ) → PartEnd c s a e → length (take (e - a) (drop a s)) ≡ e - a
 part_length c s a e p = length-take-le (e - a) (drop a s) (omega (arith, length-drop a s, p.low, p.high))
@@ -117,9 +138,6 @@ drop-take (suc m) (suc n) [] = sym (take-nil (suc n - suc m))
 drop-take (suc m) (suc n) (x ∷ l) = let z : suc n - suc m ≡ n - m = omega arith in rw z (drop-take m n l)
 
 -- ---- texts of two parts
-
-pub take_rest : (s : List ℕ) (a : ℕ) → take (length s - a) (drop a s) ≡ drop a s
-take_rest s a = take_all (length s - a) (drop a s) (omega (arith, length-drop a s))
 
 module _ (c : ℕ) (s : List ℕ) (k : ℕ) (p : PartEnd c s 0 k) where
   pub one-part : length s ≤ k → eqb (length (split c s)) 2 ≡ false

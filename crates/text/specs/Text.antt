@@ -1,5 +1,7 @@
 -- Rules 6.1: bytes as text, the parts between a byte, decimal numbers without leading zeros.
 use Rattle.std.specs.Prelude.{Bool, true, false, cond, not, ◌&&◌, List, [], ◌∷◌, ℕ, ◌+◌, ◌*◌, ◌-◌, ltb, leb, eqb, length, get_or}
+use Rattle.std.specs.List.{list_all}
+use Rattle.std.specs.Str.{bytes_eq}
 use Prim.Native.Char.{code}
 use Prim.Native.String.{String, [] as none, ◌∷◌ as letter}
 
@@ -20,15 +22,11 @@ split c (x ∷ xs) = cond (eqb x c) ([] ∷ split c xs) (onto x (split c xs))
 
 -- the two texts are the same bytes
 abbrev pub same : List ℕ → List ℕ → Bool
-same [] [] = true
-same [] (y ∷ ys) = false
-same (x ∷ xs) [] = false
-same (x ∷ xs) (y ∷ ys) = eqb x y && same xs ys
+same = bytes_eq
 
 -- every byte passes the test
 abbrev pub all : (ℕ → Bool) → List ℕ → Bool
-all f [] = true
-all f (x ∷ xs) = f x && all f xs
+all = list_all
 
 -- 0 to 9
 abbrev pub digit : ℕ → Bool

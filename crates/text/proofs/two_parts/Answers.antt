@@ -11,9 +11,9 @@ returns-then-k-s c = one-part c.args.c c.args.s.now c.part_end-k.result c.part_e
 pub returns-then-e-s : goal.returns-then-e-s
 returns-then-e-s c =
     let h : c.part_end-k.result < length c.args.s.now = omega arith in
-    many_parts c.args.c c.args.s.now c.part_end-k.result c.part_end-k.ensures c.part_end-e.result h c.part_end-e.ensures c.if-e-s.true
+    (h, two-parts c.args.c c.args.s.now c.part_end-k.result c.part_end-k.ensures c.part_end-e.result h c.part_end-e.ensures (omega arith))
 
 pub returns-else-e-s : goal.returns-else-e-s
 returns-else-e-s c =
     let h : c.part_end-k.result < length c.args.s.now = omega arith in
-    (h, two-parts c.args.c c.args.s.now c.part_end-k.result c.part_end-k.ensures c.part_end-e.result h c.part_end-e.ensures c.if-e-s.false)
+    many_parts c.args.c c.args.s.now c.part_end-k.result c.part_end-k.ensures c.part_end-e.result h c.part_end-e.ensures (omega arith)

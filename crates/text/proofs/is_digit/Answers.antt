@@ -1,9 +1,0 @@
--- The two tests are those of the definition.
-use borrow.Author.Tests.{le-leb, lt-leb}
-use Rattle.text.proofs.is_digit.Goals as goal
-
-pub returns-then-x-ge48 : goal.returns-then-x-ge48
-returns-then-x-ge48 c = simp (le-leb 48 _ c.if-x-ge48.true)
-
-pub returns-else-x-ge48 : goal.returns-else-x-ge48
-returns-else-x-ge48 c = simp (lt-leb 48 _ c.if-x-ge48.false)
