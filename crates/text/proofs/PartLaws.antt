@@ -8,14 +8,13 @@ use native.Mathlib.Decide.{dec_lt}
 use native.Mathlib.Numerals.{add-one}
 use native.Mathlib.Nat.{sub-zero}
 use lib.Dec.{eqb, ltb}
-use lib.ListN.{length, take, drop, get_or, drop_of_length-le, length-drop}
-use lib.Seq.{drop-cons, drop-drop, drop-nil, take_all, take-nil, length-take-le}
+use lib.ListN.{length, take, drop, length-drop}
+use lib.Seq.{drop-drop, drop-nil, take_all, take-nil, length-take-le}
 use Rattle.std.specs.Prelude.{Option, Some, None, position, ◌==◌}
-use Rattle.std.specs.List.{position_or_len}
-use Rattle.std.proofs.lemmas.Bool.Decides.{nat_tests}
+use Rattle.std.specs.List.{position_or_len, onto_first}
 use Rattle.std.proofs.lemmas.List.Recursion.{is_position_or_len}
-use borrow.Author.Tests.{lt-ltb, le-ltb, eq-eqb, ne_eqb}
-use Rattle.text.specs.Text.{split, onto}
+use borrow.Author.Tests.{lt-ltb, le-ltb, ne_eqb}
+use Rattle.text.specs.Text.{split}
 use Rattle.text.specs.Steps.{after, PartEnd}
 
 -- ---- counting up to the byte c
@@ -48,7 +47,7 @@ split-next c (x ∷ xs) h = rw add-one (by (eqb x c) (split-next c xs) h)
   where
     by : (t : Bool) → (until c xs < length xs → split c xs ≡ take (until c xs) xs ∷ split c (drop (until c xs + 1) xs))
         → cond t zero (suc (until c xs)) < suc (length xs)
-        → cond t ([] ∷ split c xs) (onto x (split c xs)) ≡ take (cond t zero (suc (until c xs))) (x ∷ xs) ∷ split c (drop (suc (cond t zero (suc (until c xs)))) (x ∷ xs))
+        → cond t ([] ∷ split c xs) (onto_first x (split c xs)) ≡ take (cond t zero (suc (until c xs))) (x ∷ xs) ∷ split c (drop (suc (cond t zero (suc (until c xs)))) (x ∷ xs))
     by true i h = refl
     by false i h = rw (i (omega arith), add-one)
 
@@ -57,7 +56,7 @@ split_last c [] h = refl
 split_last c (x ∷ xs) h = by (eqb x c) (split_last c xs) h
   where
     by : (t : Bool) → (length xs ≤ until c xs → split c xs ≡ take (until c xs) xs ∷ [])
-        → suc (length xs) ≤ cond t zero (suc (until c xs)) → cond t ([] ∷ split c xs) (onto x (split c xs)) ≡ take (cond t zero (suc (until c xs))) (x ∷ xs) ∷ []
+        → suc (length xs) ≤ cond t zero (suc (until c xs)) → cond t ([] ∷ split c xs) (onto_first x (split c xs)) ≡ take (cond t zero (suc (until c xs))) (x ∷ xs) ∷ []
     by true i h = absurd (omega arith)
     by false i h = rw (i (omega arith))
 
@@ -116,18 +115,18 @@ split-some c xs = elim (dec_lt (until c xs) (length xs)) [
   | no h ↦ let g : length xs ≤ until c xs = omega arith in rw (split_last c xs g) (omega arith)
 ]
 
-onto-length : (x : ℕ) (ps : List (List ℕ)) → 1 ≤ length ps → length (onto x ps) ≡ length ps
-onto-length x [] h = absurd (omega arith)
-onto-length x (p ∷ ps) h = refl
+onto_first-length : (x : ℕ) (ps : List (List ℕ)) → 1 ≤ length ps → length (onto_first x ps) ≡ length ps
+onto_first-length x [] h = absurd (omega arith)
+onto_first-length x (p ∷ ps) h = refl
 
 -- there is at most one part more than there are bytes
 pub split-few : (c : ℕ) (xs : List ℕ) → length (split c xs) ≤ suc (length xs)
 split-few c [] = omega arith
 split-few c (x ∷ xs) = by (eqb x c) (split-few c xs)
   where
-    by : (b : Bool) → length (split c xs) ≤ suc (length xs) → length (cond b ([] ∷ split c xs) (onto x (split c xs))) ≤ suc (suc (length xs))
+    by : (b : Bool) → length (split c xs) ≤ suc (length xs) → length (cond b ([] ∷ split c xs) (onto_first x (split c xs))) ≤ suc (suc (length xs))
     by true h = omega arith
-    by false h = omega (arith, onto-length x (split c xs) (split-some c xs))
+    by false h = omega (arith, onto_first-length x (split c xs) (split-some c xs))
 
 -- ---- a part of a part
 

@@ -1,20 +1,19 @@
 -- Laws of tests over a text, of decimal numbers, and of names.
-use Prim.Native.Nat.{ℕ, suc, ◌+◌, ◌*◌, ◌-◌, ◌≤◌, ◌<◌, min}
-use mathlib.Core.Path.{◌≡◌, refl, ap}
+use Prim.Native.Nat.{ℕ, ◌+◌, ◌*◌, ◌-◌, ◌≤◌, ◌<◌, min}
+use mathlib.Core.Path.{◌≡◌, refl}
 use mathlib.Core.Bool.{Bool, true, false, cond, not, ◌&&◌}
 use mathlib.Core.List.{List, [], ◌∷◌, ◌++◌}
 use native.Mathlib.Omega.{arith}
 use native.Mathlib.Numerals.{add-one}
 use native.Mathlib.Decide.{dec_le}
-use lib.Dec.{eqb, ltb, leb}
-use lib.ListN.{length, drop, get_or, drop_of_length-le}
+use lib.Dec.{ltb, leb}
+use lib.ListN.{length, drop, get_or}
 use lib.Seq.{drop-cons}
-use borrow.Author.Tests.{eq-eqb, ne_eqb, leb-true, leb-false, le-leb, lt-leb}
-use Rattle.text.specs.Text.{bytes, all, same, digit, value_from, value, leading_zero, is_number}
+use borrow.Author.Tests.{leb-true, leb-false}
+use Rattle.text.specs.Text.{bytes, all, digit, value_from, value, leading_zero, is_number}
 use Rattle.text.specs.Names.{longest_name, name_byte, is_name}
 use Rattle.text.specs.Steps.{number_up_to}
 use Rattle.std.specs.Prelude.{Ok, Err}
-use Rattle.std.proofs.lemmas.List.Recursion.{and_at}
 use Rattle.text.specs.declared.NoNumber.TheVariants.{Above, Not}
 
 pub and_false : (t : Bool) → (t && false) ≡ false
@@ -25,9 +24,6 @@ and_false false = refl
 
 pub value-step : (v : ℕ) (s : List ℕ) (i : ℕ) → i < length s → value_from v (drop i s) ≡ value_from (v * 10 + (get_or s i 0 - 48)) (drop (i + 1) s)
 value-step v s i h = rw (drop-cons s i 0, add-one)
-
-pub value-end : (v : ℕ) (s : List ℕ) (i : ℕ) → length s ≤ i → value_from v (drop i s) ≡ v
-value-end v s i h = rw drop_of_length-le
 
 -- digits only make a number larger
 pub value_grows : (v : ℕ) (xs : List ℕ) → v ≤ value_from v xs
@@ -50,29 +46,9 @@ pub both : (t u : Bool) → (t && u) ≡ true → (t ≡ true) × (u ≡ true)
 both true u e = (refl, e)
 both false u e = let z : ◌≡◌ {A = ℕ} 0 1 = cc in absurd (omega arith)
 
-digit_range : (x : ℕ) → digit x ≡ true → (48 ≤ x) × (x ≤ 57)
-digit_range x e = let p = both (leb 48 x) (leb x 57) e in (leb-true _ _ p.0, leb-true _ _ p.1)
-
--- one of digits
-pub digit-at : (s : List ℕ) (i : ℕ) → i < length s → all digit s ≡ true → (48 ≤ get_or s i 0) × (get_or s i 0 ≤ 57)
-digit-at s i h e = digit_range _ (and_at (all digit) digit refl (λ _ _. refl) s i 0 h e)
-
 pub number_digits : (xs : List ℕ) → is_number xs ≡ true → all digit xs ≡ true
 unfolding is_number
 number_digits xs e = (both (ltb 0 (length xs) && not (leading_zero xs)) (all digit xs) e).1
-
-pub number_not : (most : ℕ) (s : List ℕ) → is_number s ≡ false → Err Not ≡ number_up_to most s
-number_not most s e = rw e
-
--- v is the value of a number, or one more than the most that is asked for
-module _ (most : ℕ) (s : List ℕ) (e : is_number s ≡ true) (v : ℕ) (q : v ≡ min (most + 1) (value s)) where
-  pub number_is : v ≤ most → Ok v ≡ number_up_to most s
-  number_is h =
-      let w : value s ≡ v = omega arith in
-      rw (e, w, le-leb v most h)
-
-  pub number_above : most < v → Err Above ≡ number_up_to most s
-  number_above h = rw (e, lt-leb (value s) most (omega arith))
 
 -- a digit written after a number makes ten times the number and the digit: what decimal means
 pub value-digit : (v : ℕ) (xs : List ℕ) (d : ℕ) → value_from v (xs ++ (48 + d) ∷ []) ≡ value_from v xs * 10 + d

@@ -1,6 +1,6 @@
 -- Rules 6.1: bytes as text, the parts between a byte, decimal numbers without leading zeros.
-use Rattle.std.specs.Prelude.{Bool, true, false, cond, not, ◌&&◌, List, [], ◌∷◌, ℕ, ◌+◌, ◌*◌, ◌-◌, ltb, leb, eqb, length, get_or}
-use Rattle.std.specs.List.{list_all}
+use Rattle.std.specs.Prelude.{Bool, not, ◌&&◌, List, [], ◌∷◌, ℕ, ◌+◌, ◌*◌, ◌-◌, ltb, leb, eqb, ◌==◌, length, get_or}
+use Rattle.std.specs.List.{list_all, slice_split}
 use Rattle.std.specs.Str.{bytes_eq}
 use Prim.Native.Char.{code}
 use Prim.Native.String.{String, [] as none, ◌∷◌ as letter}
@@ -10,15 +10,9 @@ abbrev pub bytes : String → List ℕ
 bytes none = []
 bytes (letter c s) = code c ∷ bytes s
 
--- x in front of the first part
-abbrev pub onto : ℕ → List (List ℕ) → List (List ℕ)
-onto x [] = (x ∷ []) ∷ []
-onto x (p ∷ ps) = (x ∷ p) ∷ ps
-
 -- The parts of a text between its bytes c: one more than there are c. A text that ends in c has an empty last part.
 abbrev pub split : ℕ → List ℕ → List (List ℕ)
-split c [] = [] ∷ []
-split c (x ∷ xs) = cond (eqb x c) ([] ∷ split c xs) (onto x (split c xs))
+split c = slice_split (λ x. x == c)
 
 -- the two texts are the same bytes
 abbrev pub same : List ℕ → List ℕ → Bool

@@ -1,19 +1,29 @@
--- The union so far with the words from a on is the union of the whole field.
+-- The union so far with the words to come is the union of the whole field.
 use mathlib.Core.Path.{sym, ◌∙◌}
-use Prim.Native.Nat.{◌<◌}
-use native.Mathlib.Omega.{arith}
 use lib.ListN.{length}
-use Rattle.words.specs.Words.{words}
+use Rattle.std.proofs.Common.{◌==◌, rules, tests}
+use Rattle.std.proofs.lemmas.Iterator.Splits.{YieldsList-from_slice_split}
+use Rattle.std.proofs.lemmas.Iterator.Consumers.{YieldsList-turn, YieldsList-end}
+use Rattle.std.proofs.lemmas.List.{length_push}
+use Rattle.words.specs.Words.{words, comma, joined}
 use Rattle.words.proofs.WordLaws.{union_bad, union_more, union_done}
 use Rattle.words.proofs.union_of.Goals as goal
 
-pub returns-then-m-eq0 : goal.returns-then-m-eq0
-returns-then-m-eq0 c = sym (c.loop-u.invariant.1 ∙ union_bad words c.args.f.now c.loop-u.a c.part_end-e.result c.loop-u.u c.meaning_of-m.result c.part_end-e.ensures c.meaning_of-m.ensures c.if-m-eq0.true)
+pub returns-in_err-u : goal.returns-in_err-u
+returns-in_err-u c =
+    let road = YieldsList-from_slice_split _ (λ x. x == comma) c.args.f.now (cc) (cc) (cc) (λ x b q k. search (rules, tests)) in
+    let t = YieldsList-turn road c.loop-w.yielded _ c.loop-w.yielded_by _ _ c.in-Some.w c.in-Some.is c.next.ensures.steps in
+    c.from_residual.ensures ∙ sym (c.loop-w.invariant ∙ union_bad words c.loop-w.u (joined c.args.f.now) (length c.loop-w.yielded) _ t _ c.meaning_of.ensures c.in_err-u.was)
 
-pub returns-then-e-f : goal.returns-then-e-f
-returns-then-e-f c = sym (c.loop-u.invariant.1 ∙ union_done words c.args.f.now c.loop-u.a c.part_end-e.result c.loop-u.u c.meaning_of-m.result c.part_end-e.ensures c.meaning_of-m.ensures c.if-m-eq0.false (omega arith))
+pub loop-w-preserved : goal.loop-w-preserved
+loop-w-preserved c =
+    let road = YieldsList-from_slice_split _ (λ x. x == comma) c.args.f.now (cc) (cc) (cc) (λ x b q k. search (rules, tests)) in
+    let t = YieldsList-turn road c.loop-w.yielded _ c.loop-w.yielded_by _ _ c.in-Some.w c.in-Some.is c.next.ensures.steps in
+    let e = union_more words c.loop-w.u (joined c.args.f.now) (length c.loop-w.yielded) _ t _ c.meaning_of.ensures c.in_ok-u.field-0 c.in_ok-u.was in
+    rw length_push (c.loop-w.invariant ∙ e)
 
-pub loop-u-preserved : goal.loop-u-preserved
-loop-u-preserved c =
-    let h : c.part_end-e.result < length c.args.f.now = omega arith in
-    (omega arith, c.loop-u.invariant.1 ∙ union_more words c.args.f.now c.loop-u.a c.part_end-e.result c.loop-u.u c.meaning_of-m.result c.part_end-e.ensures c.meaning_of-m.ensures c.if-m-eq0.false h)
+pub returns : goal.returns
+returns c =
+    let road = YieldsList-from_slice_split _ (λ x. x == comma) c.args.f.now (cc) (cc) (cc) (λ x b q k. search (rules, tests)) in
+    let t = YieldsList-end road c.loop-w.yielded _ c.loop-w.yielded_by _ _ c.in-None.is c.next.ensures.steps in
+    sym (c.loop-w.invariant ∙ union_done words c.loop-w.u (joined c.args.f.now) _ t.1)
