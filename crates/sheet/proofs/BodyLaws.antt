@@ -1,17 +1,20 @@
 -- Laws of the bodies: a line by itself, a line of an event's body, and the reading of all bodies.
-use mathlib.Core.Path.{◌≡◌, sym, ◌∙◌}
+use mathlib.Core.Path.{◌≡◌, sym, ◌∙◌, ap}
 use mathlib.Core.Bool.{Bool, true, false, cond}
 use mathlib.Core.List.{List, [], ◌∷◌, ◌++◌}
 use Prim.Native.Nat.{ℕ, suc, ◌+◌, ◌-◌, ◌≤◌, ◌<◌}
 use native.Mathlib.Omega.{arith}
 use native.Mathlib.Numerals.{add-one}
+use Rattle.std.specs.List.{onto_first}
+use Rattle.std.specs.Prelude.{Option, Some}
+use denote.Ref.{Bor}
 use lib.Dec.{eqb}
 use lib.ListN.{length, take, drop, get_or, replicate, drop_of_length-le}
 use lib.Seq.{drop-cons, drop-drop}
 use borrow.Author.Tests.{lt-ltb, le-ltb, eq-eqb, ne_eqb}
 use Rattle.refusal.specs.Numbers.{number_of}
 use Rattle.refusal.specs.declared.Refusal.{Refusal}
-use Rattle.text.specs.Text.{split, onto}
+use Rattle.text.specs.Text.{split}
 use Rattle.text.specs.Names.{is_name}
 use Rattle.text.specs.Steps.{PartEnd}
 use Rattle.text.proofs.PartLaws.{part_length, split-some, drop-take}
@@ -19,7 +22,7 @@ use Rattle.text.proofs.TextLaws.{and_false}
 use Rattle.words.specs.Words.{Word, joined, are_words, union}
 use Rattle.statements.specs.Statements.{Statement}
 use Rattle.sheet.specs.Sheet.{refused, accepted, lf, fields, other_in, is_statement, find, statement_fault, statement_in, owners, next, line_fault, ended, bodies}
-use Rattle.sheet.specs.Steps.{parts_from, StatementIs, StatementRead}
+use Rattle.sheet.specs.Steps.{parts_from, StatementIs, StatementHas, StatementRead}
 use Rattle.sheet.proofs.LineLaws.{line-is, line-there, line-ends, or_refused_lem}
 
 -- ---- a line by itself
@@ -38,15 +41,17 @@ module _ (known : List Word) (l : List ℕ) (k : ℕ) (h : k < length l) (e : fi
   statement_name w n = rw (e, w, n)
 
   pub statement_is : (u : ℕ) → are_words known (joined (take k l)) ≡ true → union known (joined (take k l)) ≡ u → is_name (drop (k + 1) l) ≡ true
-      → StatementIs known l k u
+      → StatementIs known l u (drop (k + 1) l)
   unfolding is_statement
   statement_is u w q n =
       record {
         form = rw (e, w, n);
-        inside = h;
         other = rw e;
         set = rw e q;
       }
+
+pub statement_had : (known : List Word) (l : List ℕ) (r : Option (ℕ × Bor (List ℕ))) (u : ℕ) (m : Bor (List ℕ)) → StatementHas known l r → r ≡ Some (u, m) → StatementIs known l u m.now
+statement_had known l r u m w q = rw q at w
 
 -- ---- the line that begins at a, in the body of event i
 
@@ -68,33 +73,23 @@ module _ (known : List Word) (ns : List (List ℕ)) (i : ℕ) (s : List ℕ) (a 
   pub read_9 : is_statement known (take (e - a) (drop a s)) ≡ false → line_fault (statement_fault known ns i) (parts_from s a) ≡ 9
   read_9 b = line-there s a e p (statement_fault known ns i) h ∙ fault_9 known ns i (take (e - a) (drop a s)) b
 
-  module _ (k u : ℕ) (w : StatementIs known (take (e - a) (drop a s)) k u) where
-    pub other_fits : a + k + 1 ≤ e
-    other_fits = omega (arith, part_length lf s a e p, w.inside, p.low)
+  module _ (u : ℕ) (m : List ℕ) (w : StatementIs known (take (e - a) (drop a s)) u m) where
+    pub read_11 : length ns ≤ find ns m → line_fault (statement_fault known ns i) (parts_from s a) ≡ 11
+    read_11 g = line-there s a e p (statement_fault known ns i) h ∙ fault_11 known ns i (take (e - a) (drop a s)) w.form (find ns m) (ap (find ns) (sym w.other)) g
 
-    -- the other event's name, as the sheet has it
-    pub other-bytes : take (e - (a + k + 1)) (drop (a + k + 1) s) ≡ other_in (take (e - a) (drop a s))
-    other-bytes =
-        let q : e - (a + k + 1) ≡ e - a - (k + 1) = omega arith in
-        let r : a + k + 1 ≡ a + (k + 1) = omega arith in
-        sym (w.other ∙ drop-take (k + 1) (e - a) (drop a s) ∙ rw (q, r, drop-drop))
+    pub read_12 : find ns m < length ns → find ns m ≡ i → line_fault (statement_fault known ns i) (parts_from s a) ≡ 12
+    read_12 g d = line-there s a e p (statement_fault known ns i) h ∙ fault_12 known ns i (take (e - a) (drop a s)) w.form (find ns m) (ap (find ns) (sym w.other)) g d
 
-    module _ (j : ℕ) (q : j ≡ find ns (other_in (take (e - a) (drop a s)))) where
-      pub read_11 : length ns ≤ j → line_fault (statement_fault known ns i) (parts_from s a) ≡ 11
-      read_11 g = line-there s a e p (statement_fault known ns i) h ∙ fault_11 known ns i (take (e - a) (drop a s)) w.form j q g
-
-      pub read_12 : j < length ns → j ≡ i → line_fault (statement_fault known ns i) (parts_from s a) ≡ 12
-      read_12 g d = line-there s a e p (statement_fault known ns i) h ∙ fault_12 known ns i (take (e - a) (drop a s)) w.form j q g d
-
-      pub read_says : j < length ns → (j ≡ i → ⊥) → StatementRead known ns i s a u j (e + 1)
-      read_says g d =
-          record {
-            sound = line-there s a e p (statement_fault known ns i) h ∙ fault_none known ns i (take (e - a) (drop a s)) w.form j q g d;
-            ends = line-ends s a e p h;
-            set = rw (line-is s a e p) w.set;
-            other = rw (line-is s a e p) (sym q);
-            inside = g;
-          }
+    pub read_says : (j : ℕ) → find ns m < length ns → j ≡ find ns m → (j ≡ i → ⊥) → StatementRead known ns i s a u j (e + 1)
+    read_says j g q d =
+        record {
+          sound = line-there s a e p (statement_fault known ns i) h
+              ∙ fault_none known ns i (take (e - a) (drop a s)) w.form (find ns m) (ap (find ns) (sym w.other)) g (λ y. d (q ∙ y));
+          ends = line-ends s a e p h;
+          set = rw (line-is s a e p) w.set;
+          other = rw (line-is s a e p) (ap (find ns) w.other ∙ sym q);
+          inside = omega arith;
+        }
 
 -- ---- the bodies, one line of event i on
 
@@ -120,7 +115,7 @@ owners-next i cs h = rw (drop-cons cs i 0, add-one)
 some_not_ended : (x : ℕ) (xs : List ℕ) → ended (split lf (x ∷ xs)) ≡ false
 some_not_ended x xs = by (eqb x lf) (split lf xs) (split-some lf xs)
   where
-    by : (t : Bool) (ps : List (List ℕ)) → 1 ≤ length ps → ended (cond t ([] ∷ ps) (onto x ps)) ≡ false
+    by : (t : Bool) (ps : List (List ℕ)) → 1 ≤ length ps → ended (cond t ([] ∷ ps) (onto_first x ps)) ≡ false
     by t [] h = absurd (omega arith)
     by true (p ∷ ps) h = rw (ne_eqb (suc (suc (length ps))) 1 (λ y. omega arith))
     by false (p ∷ ps) h = rw (ne_eqb (suc (length p)) 0 (λ y. omega arith)) (and_false (eqb (suc (length ps)) 1))

@@ -6,10 +6,10 @@ use Prim.Native.Nat.{ℕ, zero, suc, ◌+◌, ◌*◌, ◌-◌, ◌≤◌, ◌<�
 use native.Mathlib.Omega.{arith}
 use native.Mathlib.Decide.{dec_lt}
 use native.Mathlib.Numerals.{add-one}
-use lib.Dec.{eqb}
-use lib.ListN.{length, take, drop, get_or, set, length-set, length-append, drop_of_length-le, get_or-append}
-use lib.Seq.{drop-cons, take-take, get_or_at, get_or-set_same, get_or-set_other}
-use borrow.Author.Tests.{le-leb, lt-leb}
+use lib.Dec.{eqb, ltb}
+use lib.ListN.{length, take, drop, get_or, set, length-set, length-append, length-map, get_or-append}
+use lib.Seq.{length-take-le, drop-cons, take-take, get_or_at, get_or-set_same, get_or-set_other}
+use borrow.Author.Tests.{ltb-true, ltb-false, le-leb, lt-leb}
 use Rattle.refusal.specs.Numbers.{number_of}
 use Rattle.refusal.specs.declared.Refusal.{Refusal}
 use Rattle.text.specs.Text.{is_number, value}
@@ -18,11 +18,28 @@ use Rattle.text.specs.Steps.{PartEnd}
 use Rattle.text.proofs.PartLaws.{part_length}
 use Rattle.words.specs.Words.{Word}
 use Rattle.sheet.specs.Sheet.{refused, most_events, most_statements, lf, fields, name_in, count_in, is_entry, find, listed, entry_fault, owners, next, line_fault, bodies, contents}
-use Rattle.sheet.specs.Steps.{parts_from, Begins, EntryIs, EntryRead, start_at, length_at, name_at, names_at, Within, Keeps, Starts, TableOf}
-use Rattle.sheet.specs.declared.Table.{Table}
+use Rattle.std.specs.Prelude.{Option, Some, None, Result, Ok, Err, position, map, not}
+use Rattle.std.specs.List.{position_or_len, slice_get}
+use Rattle.std.specs.Result.{result_ok}
+use Rattle.std.specs.Option.{is_some}
+use Rattle.std.proofs.lemmas.Option.{slice_get_read, slice_get_within, slice_get-get_or}
+use Rattle.std.proofs.lemmas.List.{map-append, get_or-take, get_or-map}
+use denote.Ref.{Bor}
+use Rattle.text.specs.Steps.{number_up_to}
+use Rattle.text.specs.declared.NoNumber.{NoNumber}
+use Rattle.text.specs.declared.NoNumber.TheVariants.{Above, Not}
+use Rattle.text.proofs.TextLaws.{above_number, no_number}
+use Rattle.sheet.specs.Answers.{name_start}
+use Rattle.sheet.specs.Steps.{parts_from, entries_of, names, counts, name_in_entry, count_in_entry, Stand, PartFrom, EntryIs, EntryHas}
+use Rattle.sheet.specs.declared.contents.Entry.{Entry}
+use Rattle.sheet.specs.declared.contents.Contents.{Contents}
 use Rattle.sheet.proofs.LineLaws.{line-is, line-there, line-ends, or_refused_lem}
 
 -- ---- a line by itself
+
+pub ok_said : (r : Result ℕ NoNumber) (v : ℕ) → Some v ≡ result_ok r → r ≡ Ok v
+ok_said (Ok x) v w = cc
+ok_said (Err x) v w = absurd (cc)
 
 pub entry-fields : (l : List ℕ) → eqb (length (fields l)) 2 ≡ false → is_entry l ≡ false
 unfolding is_entry
@@ -41,16 +58,21 @@ module _ (l : List ℕ) (k : ℕ) (h : k < length l) (e : fields l ≡ take k l 
   unfolding is_entry
   entry_many n c m = rw (e, n, c, lt-leb (value (drop (k + 1) l)) most_statements m)
 
-  pub entry-is : (v : ℕ) → is_name (take k l) ≡ true → is_number (drop (k + 1) l) ≡ true → value (drop (k + 1) l) ≤ most_statements
-      → value (drop (k + 1) l) ≡ v → EntryIs l k v
+  pub entry-form : is_name (take k l) ≡ true → is_number (drop (k + 1) l) ≡ true → value (drop (k + 1) l) ≤ most_statements → is_entry l ≡ true
   unfolding is_entry
-  entry-is v n c m w =
-      record {
-        form = rw (e, n, c, le-leb (value (drop (k + 1) l)) most_statements m);
-        inside = omega arith;
-        name = rw e;
-        count = rw e w;
-      }
+  entry-form n c m = rw (e, n, c, le-leb (value (drop (k + 1) l)) most_statements m)
+
+  -- a second field that is no number of at most 999
+  pub entry_no_count : is_name (take k l) ≡ true → (r : Result ℕ NoNumber) → r ≡ number_up_to most_statements (drop (k + 1) l) → None ≡ result_ok r → is_entry l ≡ false
+  entry_no_count n (Ok v) q w = absurd (cc)
+  entry_no_count n (Err Above) q w = let m = above_number most_statements (drop (k + 1) l) (sym q) in entry_many n m.0 m.1
+  entry_no_count n (Err Not) q w = entry_number n (no_number most_statements (drop (k + 1) l) (sym q))
+
+  pub first-field : name_in l ≡ take k l
+  first-field = rw e
+
+  pub second-field : count_in l ≡ value (drop (k + 1) l)
+  second-field = rw e
 
 -- ---- the line that begins at a, after the names ns
 
@@ -68,30 +90,12 @@ module _ (ns : List (List ℕ)) (s : List ℕ) (a e : ℕ) (p : PartEnd lf s a e
   pub read_bad : is_entry (take (e - a) (drop a s)) ≡ false → line_fault (entry_fault ns) (parts_from s a) ≡ 9
   read_bad b = line-there s a e p (entry_fault ns) h ∙ entry_bad ns (take (e - a) (drop a s)) b
 
-  module _ (k v : ℕ) (i : EntryIs (take (e - a) (drop a s)) k v) where
-    -- the name's bytes, as the sheet has them
-    pub name-fits : a + k ≤ e
-    name-fits = omega (arith, part_length lf s a e p, i.inside, p.low)
+  module _ (m : List ℕ) (i : is_entry (take (e - a) (drop a s)) ≡ true) (q : name_in (take (e - a) (drop a s)) ≡ m) where
+    pub read_twice : listed ns m ≡ true → line_fault (entry_fault ns) (parts_from s a) ≡ 10
+    read_twice t = line-there s a e p (entry_fault ns) h ∙ entry_twice ns (take (e - a) (drop a s)) i (ap (listed ns) q ∙ t)
 
-    pub name-bytes : take (a + k - a) (drop a s) ≡ name_in (take (e - a) (drop a s))
-    name-bytes =
-        let q : a + k - a ≡ k = omega arith in
-        let r : k ≤ e - a = omega (arith, name-fits) in
-        ap (λ (x : ℕ). take x (drop a s)) q ∙ sym (i.name ∙ take-take k (e - a) (drop a s) r)
-
-    pub read_twice : listed ns (name_in (take (e - a) (drop a s))) ≡ true → line_fault (entry_fault ns) (parts_from s a) ≡ 10
-    read_twice t = line-there s a e p (entry_fault ns) h ∙ entry_twice ns (take (e - a) (drop a s)) i.form t
-
-    pub read_new : listed ns (name_in (take (e - a) (drop a s))) ≡ false → EntryRead ns s a k v (e + 1)
-    read_new t =
-        let r : k ≤ e - a = omega (arith, name-fits) in
-        record {
-          sound = line-there s a e p (entry_fault ns) h ∙ entry_new ns (take (e - a) (drop a s)) i.form t;
-          ends = line-ends s a e p h;
-          inside = omega (arith, name-fits);
-          name = rw (line-is s a e p) (i.name ∙ take-take k (e - a) (drop a s) r);
-          count = rw (line-is s a e p) i.count;
-        }
+    pub read_new : listed ns m ≡ false → line_fault (entry_fault ns) (parts_from s a) ≡ 0
+    read_new t = line-there s a e p (entry_fault ns) h ∙ entry_new ns (take (e - a) (drop a s)) i (ap (listed ns) q ∙ t)
 
 -- ---- the contents, one line of k on
 
@@ -114,85 +118,125 @@ pub contents_cong : (known : List Word) (m : ℕ) {ns ns' : List (List ℕ)} {cs
     → ns ≡ ns' → cs ≡ cs' → ps ≡ ps' → line ≡ line' → contents known m ns cs ps line ≡ contents known m ns' cs' ps' line'
 contents_cong known m p q r t = cc
 
--- ---- the names that a table keeps
+-- ---- the contents kept
 
-module _ (s places : List ℕ) where
-  pub names-length : (k : ℕ) → length (names_at s places k) ≡ k
-  unfolding names_at
-  names-length zero = refl
-  names-length (suc k) = omega (arith, length-append (names_at s places k) (name_at s places k ∷ []), names-length k)
+module _ (c : Contents) where
+  pub entries-length : length (entries_of c) ≡ c.n
+  entries-length = length-take-le c.n c.entries (omega (arith, c.room, c.few))
 
-  pub names-at : (k i : ℕ) → i < k → get_or (names_at s places k) i [] ≡ name_at s places i
-  unfolding names_at
-  names-at zero i h = absurd (omega arith)
-  names-at (suc k) i h = by (names-length k) (names-at k i) (dec_lt i k)
-    where
-      by : length (names_at s places k) ≡ k → (i < k → get_or (names_at s places k) i [] ≡ name_at s places i) → Dec (i < k)
-          → get_or (names_at s places k ++ name_at s places k ∷ []) i [] ≡ name_at s places i
-      by n f (yes g) = get_or-append (names_at s places k) (name_at s places k ∷ []) [] i (omega arith) ∙ f g
-      by n f (no g) =
-          let e : i ≡ k = omega arith in
-          rw e (get_or_at (names_at s places k) (name_at s places k) [] [] k n)
+  pub names-length : length (names c) ≡ c.n
+  names-length = rw length-map entries-length
 
--- a table with one more entry
-module _ (s places : List ℕ) (i a k : ℕ) (p : 2 * i + 1 < length places) where
-  abbrev more : List ℕ
-  more = set (set places (2 * i) a) (2 * i + 1) k
+  pub counts-length : length (counts c) ≡ c.n
+  counts-length = rw length-map entries-length
 
-  start-new : start_at more i ≡ a
-  start-new =
-      get_or-set_other (set places (2 * i) a) (2 * i + 1) (2 * i) k 0 (λ e. omega arith) ∙ get_or-set_same places (2 * i) a 0 (omega arith)
+  -- event i
+  pub entry-at : (i : ℕ) (e : Entry) → i < c.n → e ≡ get_or c.entries i e → slice_get (entries_of c) i ≡ Some e
+  entry-at i e h q = slice_get_read (entries_of c) c.n i e (sym entries-length) h (q ∙ sym (get_or-take c.n c.entries i e h))
 
-  length-new : length_at more i ≡ k
-  length-new = get_or-set_same (set places (2 * i) a) (2 * i + 1) k 0 (omega (arith, length-set places (2 * i) a))
+  pub count-at : (i : ℕ) (e : Entry) → i < c.n → get_or (counts c) i 0 ≡ (get_or c.entries i e).statements
+  count-at i e h = get_or-map count_in_entry (entries_of c) i e 0 (omega (arith, entries-length)) ∙ ap count_in_entry (get_or-take c.n c.entries i e h)
 
-  -- the entries before it are as they were
-  module _ (j : ℕ) (h : j < i) where
-    start_old : start_at more j ≡ start_at places j
-    start_old =
-        get_or-set_other (set places (2 * i) a) (2 * i + 1) (2 * j) k 0 (λ e. omega arith) ∙ get_or-set_other places (2 * i) (2 * j) a 0 (λ e. omega arith)
+  -- of no event yet
+  pub begun-names : c.n ≡ 0 → names c ≡ []
+  begun-names q = rw q
 
-    length_old : length_at more j ≡ length_at places j
-    length_old =
-        get_or-set_other (set places (2 * i) a) (2 * i + 1) (2 * j + 1) k 0 (λ e. omega arith)
-        ∙ get_or-set_other places (2 * i) (2 * j + 1) a 0 (λ e. omega arith)
+  pub begun-counts : c.n ≡ 0 → counts c ≡ []
+  begun-counts q = rw q
 
-  names-kept : (j : ℕ) → j ≤ i → names_at s (set (set places (2 * i) a) (2 * i + 1) k) j ≡ names_at s places j
-  unfolding names_at
-  names-kept zero h = refl
-  names-kept (suc j) h = rw (names-kept j (omega arith), start_old j (omega arith), length_old j (omega arith))
+  pub begun-stand : (s : Bor (List ℕ)) → c.n ≡ 0 → Stand s (entries_of c)
+  begun-stand s q i e h = absurd (omega (arith, slice_get_within (entries_of c) i e h, entries-length))
 
-  pub names_more : names_at s (set (set places (2 * i) a) (2 * i + 1) k) (i + 1) ≡ names_at s places i ++ take k (drop a s) ∷ []
-  unfolding names_at
-  names_more = rw (add-one i, names-kept i (omega arith), start-new, length-new)
+-- one event more
+module _ (c d : Contents) (e : Entry) (q : entries_of d ≡ entries_of c ++ e ∷ []) where
+  pub added-n : d.n ≡ c.n + 1
+  added-n = omega (arith, entries-length c, entries-length d, ap length q, length-append (entries_of c) (e ∷ []))
 
-  pub within_more : Within s places i → a + k ≤ length s → Within s (set (set places (2 * i) a) (2 * i + 1) k) (i + 1)
-  within_more w h j g = elim (dec_lt j i) [
-    | yes b ↦ omega (arith, start_old j b, length_old j b, w j b)
-    | no b ↦ let e : j ≡ i = omega arith in rw e (omega (arith, start-new, length-new))
-  ]
+  pub added-names : names d ≡ names c ++ e.name.now ∷ []
+  added-names = ap (map name_in_entry) q ∙ map-append name_in_entry (entries_of c) (e ∷ [])
 
-  pub starts_more : Starts s places i → Begins s (i + 1) a → Starts s (set (set places (2 * i) a) (2 * i + 1) k) (i + 1)
-  starts_more w h j g = elim (dec_lt j i) [
-    | yes b ↦ start_old j b ∙ w j b
-    | no b ↦ let e : j ≡ i = omega arith in rw e (start-new ∙ sym h.bytes)
-  ]
+  pub added-counts : counts d ≡ counts c ++ e.statements ∷ []
+  added-counts = ap (map count_in_entry) q ∙ map-append count_in_entry (entries_of c) (e ∷ [])
 
--- the table of n events has the places of n names
-pub table-keeps : (s : List ℕ) (n : ℕ) (t : Table) → n ≤ most_events → TableOf s n t → Keeps s t.places n
-table-keeps s n t few w = record { room = omega (arith, w.places-long); within = w.within }
+  pub added-stand : (s : Bor (List ℕ)) → Stand s (entries_of c) → PartFrom s (name_start s.now c.n) e.name → Stand s (entries_of d)
+  added-stand s w p i x h =
+      let l = entries-length c in
+      let m = slice_get_within (entries_of d) i x h in
+      let n = added-n in
+      let k = entries-length d in
+      let g : slice_get (entries_of c ++ e ∷ []) i ≡ Some x = ap (λ (es : List Entry). slice_get es i) (sym q) ∙ h in
+      elim (dec_lt i c.n) [
+        | yes b ↦
+            let o : slice_get (entries_of c) i ≡ Some x = slice_get-get_or (entries_of c) i x (omega arith)
+            ∙ ap Some (sym (get_or-append (entries_of c) (e ∷ []) x i (omega arith)) ∙ ap (λ (es : List Entry). get_or es i x) (sym q))
+            ∙ sym (slice_get-get_or (entries_of d) i x m) ∙ h in
+            w i x o
+        | no b ↦
+            let j : i ≡ c.n = omega arith in
+            let y : get_or (entries_of c ++ e ∷ []) i x ≡ e = get_or_at (entries_of c) e [] x i (omega arith) in
+            let z : Some x ≡ Some e = sym h ∙ slice_get-get_or (entries_of d) i x m ∙ ap Some (ap (λ (es : List Entry). get_or es i x) q ∙ y) in
+            let v : x ≡ e = cc in
+            rw (v, j) p
+      ]
 
 -- ---- looking a name up
 
-module _ (ns : List (List ℕ)) (m : List ℕ) (i : ℕ) where
-  pub find_hit : i < length ns → same_name (get_or ns i []) m ≡ true → find (drop i ns) m ≡ 0
-  find_hit h e = rw (drop-cons ns i [], e)
+find_position : (m : List ℕ) (es : List Entry) → find (map name_in_entry es) m ≡ position_or_len (λ e. same_name e.name.now m) es
+find_position m [] = refl
+find_position m (e ∷ es) = by (same_name e.name.now m) (find_position m es)
+  where
+    by : (t : Bool) → find (map name_in_entry es) m ≡ position_or_len (λ x. same_name x.name.now m) es
+        → cond t zero (suc (find (map name_in_entry es) m)) ≡ cond (not t) (1 + position_or_len (λ x. same_name x.name.now m) es) 0
+    by true i = refl
+    by false i = omega arith
 
-  pub find_miss : i < length ns → same_name (get_or ns i []) m ≡ false → find (drop i ns) m ≡ 1 + find (drop (i + 1) ns) m
-  find_miss h e = rw (drop-cons ns i [], e, add-one) (omega arith)
+module _ (es : List Entry) (m : List ℕ) (r : Option ℕ) (e : r ≡ position (λ x. same_name x.name.now m) es) where
+  module _ (ns : List (List ℕ)) (q : map name_in_entry es ≡ ns) where
+    said : r ≡ cond (ltb (find ns m) (length ns)) (Some (find ns m)) None
+    said =
+        let w : length (map name_in_entry es) ≡ length es = rw length-map in
+        let l : length ns ≡ length es = ap length (sym q) ∙ w in
+        let f : find ns m ≡ position_or_len (λ x. same_name x.name.now m) es = ap (λ (x : List (List ℕ)). find x m) (sym q) ∙ find_position m es in
+        rw (f, l) e
 
-  pub find-end : length ns ≤ i → find (drop i ns) m ≡ 0
-  find-end h = rw drop_of_length-le
+    pub find_some : (j : ℕ) → r ≡ Some j → (listed ns m ≡ true) × (j ≡ find ns m)
+    find_some j w = by (listed ns m) (sym w ∙ said)
+      where
+        by : (t : Bool) → Some j ≡ cond t (Some (find ns m)) None → (t ≡ true) × (j ≡ find ns m)
+        by true v = (refl, (cc))
+        by false v = absurd (cc)
+
+    pub find_none : r ≡ None → listed ns m ≡ false
+    find_none w = by (listed ns m) (sym w ∙ said)
+      where
+        by : (t : Bool) → None ≡ cond t (Some (find ns m)) None → t ≡ false
+        by true v = absurd (cc)
+        by false v = refl
+
+-- what `find` answers
+module _ (c : Contents) (m : List ℕ) (r : Option ℕ) (e : r ≡ position (λ x. same_name x.name.now m) (entries_of c)) where
+  pub is_found : is_some r ≡ true → listed (names c) m ≡ true
+  is_found w = by r refl w
+    where
+      by : (o : Option ℕ) → r ≡ o → is_some o ≡ true → listed (names c) m ≡ true
+      by None q w = absurd (cc)
+      by (Some j) q w = (find_some (entries_of c) m r e (names c) refl j q).0
+
+  pub not_found : is_some r ≡ false → listed (names c) m ≡ false
+  not_found w = by r refl w
+    where
+      by : (o : Option ℕ) → r ≡ o → is_some o ≡ false → listed (names c) m ≡ false
+      by None q w = find_none (entries_of c) m r e (names c) refl q
+      by (Some j) q w = absurd (cc)
+
+  pub found_at : (j : ℕ) → r ≡ Some j → (find (names c) m < length (names c)) × (j ≡ find (names c) m)
+  found_at j q = let f = find_some (entries_of c) m r e (names c) refl j q in (ltb-true (find (names c) m) (length (names c)) f.0, f.1)
+
+  pub not_listed : r ≡ None → length (names c) ≤ find (names c) m
+  not_listed q = ltb-false (find (names c) m) (length (names c)) (find_none (entries_of c) m r e (names c) refl q)
+
+pub entry_had : (l : Bor (List ℕ)) (r : Option Entry) (e : Entry) → EntryHas l r → r ≡ Some e → EntryIs l e
+entry_had l r e w q = rw q at w
 
 pub find_le : (ns : List (List ℕ)) (m : List ℕ) → find ns m ≤ length ns
 find_le [] m = omega arith

@@ -1,10 +1,10 @@
 pub mod LineLaws
-pub mod ContentsLaws
-pub mod BodyLaws
 pub mod FitLaws
+pub mod ContentsLaws
+pub mod NameLaws
+pub mod BodyLaws
 pub mod RefusedLaws
 pub mod SheetLaws
-pub mod NameLaws
 pub mod SheetRight
-pub mod Examples
 pub mod Edges
+pub mod Examples

@@ -1,11 +1,10 @@
 -- Rules 6 and 7: what the two functions on sheets hand back.
-use Rattle.std.specs.Prelude.{◌≡◌, cond, List, [], ◌∷◌, ◌++◌, ℕ, ◌+◌, ◌*◌, ltb, eqb, length, take, drop, get_or}
+use Rattle.std.specs.Prelude.{◌≡◌, cond, List, [], ◌∷◌, ◌++◌, ℕ, ◌+◌, ◌*◌, ltb, eqb, length, take, drop, get_or, Result, Ok, Err}
 use Rattle.std.specs.Borrow.{Bor}
 use Rattle.refusal.specs.Numbers.{number_of}
 use Rattle.statements.specs.Grid.{grid_of}
 use Rattle.sheet.specs.Sheet.{Outcome, refused, accepted, parts, sheet}
-use Rattle.sheet.specs.declared.SheetAnswer.{SheetAnswer}
-use Rattle.sheet.specs.declared.SheetAnswer.TheVariants.{Events, Refused}
+use Rattle.sheet.specs.declared.SheetRefusal.{SheetRefusal}
 
 -- ---- the sheet reader
 
@@ -14,9 +13,9 @@ pub data Said : Type 0 where
   events : ℕ → Said
   refusal : ℕ → ℕ → Said
 
-abbrev pub said_of : SheetAnswer → Said
-said_of (Events n) = events n
-said_of (Refused r line) = refusal (number_of r) line
+abbrev pub said_of : Result ℕ SheetRefusal → Said
+said_of (Ok n) = events n
+said_of (Err r) = refusal (number_of r.why) r.line
 
 abbrev pub room_cells : ℕ
 room_cells = 1024
@@ -38,7 +37,7 @@ abbrev pub read_room : List ℕ → List ℕ → List ℕ
 read_room s room = cond (eqb (length room) room_cells) (outcome_room (sheet s) room) room
 
 -- a sheet s and a room, the answer, and the room afterwards
-pub record Reads (s before : List ℕ) (r : SheetAnswer) (after : List ℕ) : Type 0 where
+pub record Reads (s before : List ℕ) (r : Result ℕ SheetRefusal) (after : List ℕ) : Type 0 where
   pub answer : said_of r ≡ read_said s before
   pub room : after ≡ read_room s before
 

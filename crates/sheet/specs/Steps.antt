@@ -1,28 +1,21 @@
 -- What the inner functions of the sheet reader say of their steps. A reader of the public statements need not read this.
 -- `known` are the words there are.
-use Rattle.std.specs.Prelude.{◌≡◌, true, false, cond, List, [], ◌∷◌, ◌++◌, ℕ, zero, suc, ◌+◌, ◌*◌, ◌≤◌, ◌<◌, ltb, length, take, drop, get_or, replicate}
+use Rattle.std.specs.Prelude.{◌≡◌, true, false, cond, List, [], ◌∷◌, ◌++◌, ℕ, ◌+◌, ◌*◌, ◌≤◌, ◌<◌, length, take, drop, get_or, replicate, map, Option, Some, None, Result, Ok, Err}
+use Rattle.std.specs.List.{slice_get}
 use Rattle.std.specs.Borrow.{Bor}
 use Rattle.refusal.specs.Numbers.{number_of}
-use Rattle.text.specs.Text.{split}
+use Rattle.refusal.specs.declared.Refusal.{Refusal}
+use Rattle.text.specs.Text.{split, value}
 use Rattle.text.specs.Names.{longest_name}
 use Rattle.words.specs.Words.{Word}
 use Rattle.statements.specs.Statements.{Statement}
 use Rattle.statements.specs.Grid.{cut_all, grid_of}
-use Rattle.sheet.specs.Sheet.{Outcome, refused, accepted, most_events, lf, parts, name_in, count_in, is_entry, entry_fault, find, set_in, other_in, is_statement, statement_fault, owners, next, line_fault, bodies, contents}
+use Rattle.sheet.specs.Sheet.{Outcome, refused, accepted, most_events, lf, parts, first_fault, listed, name_in, count_in, is_entry, entry_fault, find, set_in, other_in, is_statement, statement_fault, owners, next, line_fault, bodies, contents}
 use Rattle.sheet.specs.Answers.{bytes_in, name_start}
-use Rattle.sheet.specs.declared.EntryForm.{EntryForm}
-use Rattle.sheet.specs.declared.EntryForm.TheVariants.{Is as Entry-as-Is, Bad as Entry-as-Bad}
-use Rattle.sheet.specs.declared.EntryLine.{EntryLine}
-use Rattle.sheet.specs.declared.EntryLine.TheVariants.{Lists, Stop as Entry-as-Stop}
-use Rattle.sheet.specs.declared.StatementForm.{StatementForm}
-use Rattle.sheet.specs.declared.StatementForm.TheVariants.{Is, Bad}
-use Rattle.sheet.specs.declared.StatementLine.{StatementLine}
-use Rattle.sheet.specs.declared.StatementLine.TheVariants.{Says, Stop}
-use Rattle.sheet.specs.declared.Table.{Table}
+use Rattle.sheet.specs.declared.SheetRefusal.{SheetRefusal}
 use Rattle.sheet.specs.declared.Place.{Place}
-use Rattle.sheet.specs.declared.Place.TheVariants.{At, Refused as Place-as-Refused}
-use Rattle.sheet.specs.declared.SheetAnswer.{SheetAnswer}
-use Rattle.sheet.specs.declared.SheetAnswer.TheVariants.{Events, Refused}
+use Rattle.sheet.specs.declared.contents.Entry.{Entry}
+use Rattle.sheet.specs.declared.contents.Contents.{Contents}
 
 -- ---- lines
 
@@ -43,100 +36,101 @@ pub record Begins (s : List ℕ) (k a : ℕ) : Type 0 where
   pub bytes : bytes_in (take k (parts s)) ≡ a
   pub rest : drop k (parts s) ≡ parts_from s a
 
+-- ---- line 1
+
+-- so many events, and the next line begins at b
+pub record FirstRead (s : List ℕ) (n b : ℕ) : Type 0 where
+  pub sound : line_fault first_fault (parts s) ≡ 0
+  pub few : n ≤ most_events
+  pub events : value (next (parts s)) ≡ n
+  pub begins : Begins s 1 b
+  pub rest : drop 1 (parts s) ≡ parts_from s b
+
+abbrev pub FirstSays : List ℕ → Result (ℕ × ℕ) Refusal → Type 0
+FirstSays s (Ok p) = FirstRead s p.0 p.1
+FirstSays s (Err r) = line_fault first_fault (parts s) ≡ number_of r
+
 -- ---- the contents
 
--- a line by itself: its name has k bytes, and v is its number of statements
-pub record EntryIs (l : List ℕ) (k v : ℕ) : Type 0 where
-  pub form : is_entry l ≡ true
-  pub inside : k ≤ length l
-  pub name : name_in l ≡ take k l
-  pub count : count_in l ≡ v
+-- the entries that are filled, their names, and their numbers of statements
+abbrev pub entries_of : Contents → List Entry
+entries_of c = take c.n c.entries
 
-abbrev pub EntryHas : List ℕ → EntryForm → Type 0
-EntryHas l (Entry-as-Is k v) = EntryIs l k v
-EntryHas l Entry-as-Bad = is_entry l ≡ false
+abbrev pub name_in_entry : Entry → List ℕ
+name_in_entry e = e.name.now
 
--- the line that begins at a, after the names ns
-pub record EntryRead (ns : List (List ℕ)) (s : List ℕ) (a k v b : ℕ) : Type 0 where
-  pub sound : line_fault (entry_fault ns) (parts_from s a) ≡ 0
-  pub ends : Ends s a b
-  pub inside : a + k < b
-  pub name : name_in (next (parts_from s a)) ≡ take k (drop a s)
-  pub count : count_in (next (parts_from s a)) ≡ v
+abbrev pub count_in_entry : Entry → ℕ
+count_in_entry e = e.statements
 
-abbrev pub EntrySays : List (List ℕ) → List ℕ → ℕ → EntryLine → Type 0
-EntrySays ns s a (Lists k v b) = EntryRead ns s a k v b
-EntrySays ns s a (Entry-as-Stop r) = line_fault (entry_fault ns) (parts_from s a) ≡ number_of r
+abbrev pub names : Contents → List (List ℕ)
+names c = map name_in_entry (entries_of c)
 
--- The places of the names are two numbers for each event: where its name begins in the sheet, and how long it is.
-abbrev pub start_at : List ℕ → ℕ → ℕ
-start_at places i = get_or places (2 * i) 0
+abbrev pub counts : Contents → List ℕ
+counts c = map count_in_entry (entries_of c)
 
-abbrev pub length_at : List ℕ → ℕ → ℕ
-length_at places i = get_or places (2 * i + 1) 0
+-- a part of a text, that starts so many bytes after its first
+pub record PartFrom (s : Bor (List ℕ)) (a : ℕ) (part : Bor (List ℕ)) : Type 0 where
+  pub memory : part.ref_ptr.0 ≡ s.ref_ptr.0
+  pub start : part.ref_ptr.1 ≡ a + s.ref_ptr.1
 
--- the name of event i
-abbrev pub name_at : List ℕ → List ℕ → ℕ → List ℕ
-name_at s places i = take (length_at places i) (drop (start_at places i) s)
+-- a line by itself
+pub record EntryIs (l : Bor (List ℕ)) (e : Entry) : Type 0 where
+  pub form : is_entry l.now ≡ true
+  pub name : name_in l.now ≡ e.name.now
+  pub part : PartFrom l 0 e.name
+  pub count : count_in l.now ≡ e.statements
 
--- the first k names
-unfoldable pub names_at : List ℕ → List ℕ → ℕ → List (List ℕ)
-names_at s places zero = []
-names_at s places (suc k) = names_at s places k ++ name_at s places k ∷ []
+abbrev pub EntryHas : Bor (List ℕ) → Option Entry → Type 0
+EntryHas l (Some e) = EntryIs l e
+EntryHas l None = is_entry l.now ≡ false
 
--- each of them lies in the sheet
-abbrev pub Within : List ℕ → List ℕ → ℕ → Type 0
-Within s places k = (i : ℕ) → i < k → start_at places i + length_at places i ≤ length s
+-- the line that begins at a, after the contents so far
+pub record EntryRead (c : Contents) (a : ℕ) (e : Entry) (b : ℕ) : Type 0 where
+  pub sound : line_fault (entry_fault (names c)) (parts_from c.sheet.now a) ≡ 0
+  pub ends : Ends c.sheet.now a b
+  pub name : name_in (next (parts_from c.sheet.now a)) ≡ e.name.now
+  pub part : PartFrom c.sheet a e.name
+  pub count : count_in (next (parts_from c.sheet.now a)) ≡ e.statements
 
--- the places of n names
-pub record Keeps (s places : List ℕ) (n : ℕ) : Type 0 where
-  pub room : 2 * n ≤ length places
-  pub within : Within s places n
+abbrev pub EntrySays : Contents → ℕ → Result (Entry × ℕ) Refusal → Type 0
+EntrySays c a (Ok p) = EntryRead c a p.0 p.1
+EntrySays c a (Err r) = line_fault (entry_fault (names c)) (parts_from c.sheet.now a) ≡ number_of r
 
 -- names of at most 16 bytes
 abbrev pub Short : List (List ℕ) → Type 0
 Short ns = (i : ℕ) → i < length ns → length (get_or ns i []) ≤ longest_name
 
--- each stands at the beginning of its line
-abbrev pub Starts : List ℕ → List ℕ → ℕ → Type 0
-Starts s places k = (i : ℕ) → i < k → start_at places i ≡ name_start s i
+-- each name stands at the beginning of its line
+abbrev pub Stand : Bor (List ℕ) → List Entry → Type 0
+Stand s es = (i : ℕ) (e : Entry) → slice_get es i ≡ Some e → PartFrom s (name_start s.now i) e.name
 
--- a table of n names
-pub record TableOf (s : List ℕ) (n : ℕ) (t : Table) : Type 0 where
-  pub places-long : length t.places ≡ 2 * most_events
-  pub count_long : length t.count ≡ most_events
-  pub within : Within s t.places n
-  pub starts : Starts s t.places n
-
-abbrev pub table_names : List ℕ → ℕ → Table → List (List ℕ)
-table_names s n t = names_at s t.places n
-
-abbrev pub table_counts : ℕ → Table → List ℕ
-table_counts n t = take n t.count
+-- contents of n events
+pub record ContentsOf (s : Bor (List ℕ)) (n : ℕ) (c : Contents) : Type 0 where
+  pub sheet : c.sheet ≡ s
+  pub events : c.n ≡ n
+  pub stand : Stand s (entries_of c)
 
 -- The contents that begin at a are read up to b: the bodies are left.
-pub record ContentsRead (known : List Word) (s : List ℕ) (n a : ℕ) (t : Table) (b : ℕ) : Type 0 where
-  pub inside : b ≤ length s
-  pub table : TableOf s n t
-  pub says : contents known n [] [] (parts_from s a) 2
-      ≡ bodies known (table_names s n t) (table_counts n t) (owners 0 (table_counts n t)) [] (parts_from s b) (n + 2)
+pub record ContentsRead (known : List Word) (s : Bor (List ℕ)) (n a : ℕ) (c : Contents) (b : ℕ) : Type 0 where
+  pub inside : b ≤ length s.now
+  pub keeps : ContentsOf s n c
+  pub says : contents known n [] [] (parts_from s.now a) 2 ≡ bodies known (names c) (counts c) (owners 0 (counts c)) [] (parts_from c.sheet.now b) (c.n + 2)
 
-abbrev pub ContentsSay : List Word → List ℕ → ℕ → ℕ → Table → Place → Type 0
-ContentsSay known s n a t (At b line) = ContentsRead known s n a t b
-ContentsSay known s n a t (Place-as-Refused r line) = contents known n [] [] (parts_from s a) 2 ≡ refused (number_of r) line
+abbrev pub ContentsSay : List Word → Bor (List ℕ) → ℕ → ℕ → Result (Contents × ℕ) SheetRefusal → Type 0
+ContentsSay known s n a (Ok p) = ContentsRead known s n a p.0 p.1
+ContentsSay known s n a (Err r) = contents known n [] [] (parts_from s.now a) 2 ≡ refused (number_of r.why) r.line
 
 -- ---- the bodies: each statement cuts the grid
 
--- a line by itself: its words have k bytes, and u is their set
-pub record StatementIs (known : List Word) (l : List ℕ) (k u : ℕ) : Type 0 where
+-- a line by itself: the set of its words is u, and m is the other event's name
+pub record StatementIs (known : List Word) (l : List ℕ) (u : ℕ) (m : List ℕ) : Type 0 where
   pub form : is_statement known l ≡ true
-  pub inside : k < length l
-  pub other : other_in l ≡ drop (k + 1) l
+  pub other : other_in l ≡ m
   pub set : set_in known l ≡ u
 
-abbrev pub StatementHas : List Word → List ℕ → StatementForm → Type 0
-StatementHas known l (Is k u) = StatementIs known l k u
-StatementHas known l Bad = is_statement known l ≡ false
+abbrev pub StatementHas : List Word → List ℕ → Option (ℕ × Bor (List ℕ)) → Type 0
+StatementHas known l (Some p) = StatementIs known l p.0 p.1.now
+StatementHas known l None = is_statement known l ≡ false
 
 -- the line that begins at a, in the body of event i: its set, and event j
 pub record StatementRead (known : List Word) (ns : List (List ℕ)) (i : ℕ) (s : List ℕ) (a u j b : ℕ) : Type 0 where
@@ -146,54 +140,54 @@ pub record StatementRead (known : List Word) (ns : List (List ℕ)) (i : ℕ) (s
   pub other : find ns (other_in (next (parts_from s a))) ≡ j
   pub inside : j < length ns
 
-abbrev pub StatementSays : List Word → List (List ℕ) → ℕ → List ℕ → ℕ → StatementLine → Type 0
-StatementSays known ns i s a (Says u j b) = StatementRead known ns i s a u j b
-StatementSays known ns i s a (Stop r) = line_fault (statement_fault known ns i) (parts_from s a) ≡ number_of r
+abbrev pub StatementSays : List Word → List (List ℕ) → ℕ → List ℕ → ℕ → Result (ℕ × ℕ × ℕ) Refusal → Type 0
+StatementSays known ns i s a (Ok p) = StatementRead known ns i s a p.0 p.1 p.2
+StatementSays known ns i s a (Err r) = line_fault (statement_fault known ns i) (parts_from s a) ≡ number_of r
 
--- The body of event i, of so many lines, begins at a with the line `first`. It is read up to b, where line `line` begins:
--- whatever statements sts were read before, and whatever lines os come after.
-pub record BodyRead (known : List Word) (s : List ℕ) (ns : List (List ℕ)) (n i lines a first : ℕ) (g g' : List ℕ) (b line : ℕ) : Type 0 where
-  pub inside : b ≤ length s
-  pub few : line ≤ b + (most_events + 2)
+-- The body of event i begins at the place p. It is read up to the place q: whatever statements sts were read before, and
+-- whatever lines os come after.
+pub record BodyRead (known : List Word) (c : Contents) (i : ℕ) (p : Place) (g g' : List ℕ) (q : Place) : Type 0 where
+  pub inside : q.at ≤ length c.sheet.now
+  pub few : q.line ≤ q.at + (most_events + 2)
   pub new : List Statement
-  pub grid : g' ≡ cut_all n g new
-  pub says : (cs os : List ℕ) (sts : List Statement)
-      → bodies known ns cs (replicate lines i ++ os) sts (parts_from s a) first ≡ bodies known ns cs os (sts ++ new) (parts_from s b) line
+  pub grid : g' ≡ cut_all c.n g new
+  pub says : (os : List ℕ) (sts : List Statement)
+      → bodies known (names c) (counts c) (replicate (get_or (counts c) i 0) i ++ os) sts (parts_from c.sheet.now p.at) p.line
+      ≡ bodies known (names c) (counts c) os (sts ++ new) (parts_from c.sheet.now q.at) q.line
 
-abbrev pub BodySays : List Word → List ℕ → List (List ℕ) → ℕ → ℕ → ℕ → ℕ → ℕ → List ℕ → List ℕ → Place → Type 0
-BodySays known s ns n i lines a first g g' (At b line) = BodyRead known s ns n i lines a first g g' b line
-BodySays known s ns n i lines a first g g' (Place-as-Refused r line) =
-    (cs os : List ℕ) (sts : List Statement) → bodies known ns cs (replicate lines i ++ os) sts (parts_from s a) first ≡ refused (number_of r) line
+abbrev pub BodySays : List Word → Contents → ℕ → Place → List ℕ → List ℕ → Result Place SheetRefusal → Type 0
+BodySays known c i p g g' (Ok q) = BodyRead known c i p g g' q
+BodySays known c i p g g' (Err r) =
+    (os : List ℕ) (sts : List Statement)
+    → bodies known (names c) (counts c) (replicate (get_or (counts c) i 0) i ++ os) sts (parts_from c.sheet.now p.at) p.line ≡ refused (number_of r.why) r.line
 
 -- All bodies are read, and nothing is left.
-pub record BodiesRead (known : List Word) (s : List ℕ) (ns : List (List ℕ)) (cs : List ℕ) (n a : ℕ) (g g' : List ℕ) (m : ℕ) : Type 0 where
-  pub events : m ≡ n
+pub record BodiesRead (known : List Word) (c : Contents) (a : ℕ) (g g' : List ℕ) : Type 0 where
   pub new : List Statement
-  pub grid : g' ≡ cut_all n g new
-  pub says : bodies known ns cs (owners 0 cs) [] (parts_from s a) (n + 2) ≡ accepted ns cs new
+  pub grid : g' ≡ cut_all c.n g new
+  pub says : bodies known (names c) (counts c) (owners 0 (counts c)) [] (parts_from c.sheet.now a) (c.n + 2) ≡ accepted (names c) (counts c) new
 
-abbrev pub BodiesSay : List Word → List ℕ → List (List ℕ) → List ℕ → ℕ → ℕ → List ℕ → List ℕ → SheetAnswer → Type 0
-BodiesSay known s ns cs n a g g' (Events m) = BodiesRead known s ns cs n a g g' m
-BodiesSay known s ns cs n a g g' (Refused r line) = bodies known ns cs (owners 0 cs) [] (parts_from s a) (n + 2) ≡ refused (number_of r) line
+abbrev pub BodiesSay : List Word → Contents → ℕ → List ℕ → List ℕ → Result Unit SheetRefusal → Type 0
+BodiesSay known c a g g' (Ok u) = BodiesRead known c a g g'
+BodiesSay known c a g g' (Err r) = bodies known (names c) (counts c) (owners 0 (counts c)) [] (parts_from c.sheet.now a) (c.n + 2) ≡ refused (number_of r.why) r.line
 
 -- ---- the whole sheet
 
--- An accepted sheet o of n events: their names stand in the table, and the first n × n cells are its grid.
-pub record SheetRead (o : Outcome) (s g : List ℕ) (t : Table) (n : ℕ) : Type 0 where
-  pub few : n ≤ most_events
-  pub table : TableOf s n t
+-- An accepted sheet o: its names stand in the contents, and the first n × n cells are its grid.
+pub record SheetRead (o : Outcome) (s : Bor (List ℕ)) (g : List ℕ) (c : Contents) : Type 0 where
+  pub keeps : ContentsOf s c.n c
   pub statements : List Statement
-  pub says : o ≡ accepted (table_names s n t) (table_counts n t) statements
-  pub grid : take (n * n) g ≡ grid_of n statements
+  pub says : o ≡ accepted (names c) (counts c) statements
+  pub grid : take (c.n * c.n) g ≡ grid_of c.n statements
 
-abbrev pub SheetSays : Outcome → List ℕ → List ℕ → Table → SheetAnswer → Type 0
-SheetSays o s g t (Events n) = SheetRead o s g t n
-SheetSays o s g t (Refused r line) = o ≡ refused (number_of r) line
+abbrev pub SheetSays : Outcome → Bor (List ℕ) → List ℕ → Result Contents SheetRefusal → Type 0
+SheetSays o s g (Ok c) = SheetRead o s g c
+SheetSays o s g (Err r) = o ≡ refused (number_of r.why) r.line
 
 -- ---- a name handed back
 
--- the name of event i of n, as the table keeps it, or the empty part at the sheet's beginning
-pub record PartAt (s : Bor (List ℕ)) (places : List ℕ) (n i : ℕ) (part : Bor (List ℕ)) : Type 0 where
-  pub bytes : part.now ≡ get_or (names_at s.now places n) i []
-  pub memory : part.ref_ptr.0 ≡ s.ref_ptr.0
-  pub start : part.ref_ptr.1 ≡ cond (ltb i n) (start_at places i) 0 + s.ref_ptr.1
+-- the name of event i, as the contents keep it, or the empty part at the sheet's beginning
+pub record PartAt (c : Contents) (i : ℕ) (part : Bor (List ℕ)) : Type 0 where
+  pub bytes : part.now ≡ get_or (names c) i []
+  pub event : (e : Entry) → slice_get (entries_of c) i ≡ Some e → part ≡ e.name
+  pub none : c.n ≤ i → PartFrom c.sheet 0 part

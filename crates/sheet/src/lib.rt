@@ -1,16 +1,18 @@
 // Sheets: read into a grid, or refused; the names handed back.
 #![tactic(auto)]
 
-ghost use Rattle.std.specs.Prelude.{◌≡◌, [], ◌+◌, ◌*◌, ◌≤◌, ◌<◌, length, take};
+ghost use Rattle.std.specs.Prelude.{◌≡◌, [], ◌+◌, ◌*◌, ◌≤◌, ◌<◌, length};
 ghost use Rattle.words.specs.Words.{words};
-ghost use Rattle.sheet.specs.Sheet.{most_events, find, contents, sheet};
+ghost use Rattle.sheet.specs.Sheet.{most_events, contents, sheet};
 ghost use Rattle.sheet.specs.Answers.{room_cells, Reads, NamePart};
-ghost use Rattle.sheet.specs.Steps.{parts_from, Begins, EntryHas, EntrySays, StatementHas, StatementSays, names_at, Keeps, ContentsSay, BodySays, BodiesSay, SheetSays, PartAt};
+ghost use Rattle.sheet.specs.Steps.{parts_from, Begins, FirstSays, EntryHas, EntrySays, StatementHas, StatementSays, names, ContentsSay, BodySays, BodiesSay, SheetSays};
 
+mod contents;
+
+pub use contents::{Contents, Entry};
 use grid::EVENTS;
 use refusal::Refusal;
-use text::{Number, Two};
-use words::Union;
+use text::NoNumber;
 
 const MOST_BYTES: usize = 65536;
 
@@ -22,356 +24,224 @@ pub const LF: u8 = b'\n';
 
 const SPACE: u8 = b' ';
 
-// A line of the contents by itself: the length of its name, and its number of statements.
+// Why a sheet was not taken, and the line that is at fault; 0 where none is.
 #[derive(Clone, Copy)]
-enum EntryForm {
-    Is(usize, usize),
-    Bad,
+pub struct SheetRefusal {
+    pub why: Refusal,
+    pub line: usize,
 }
 
-fn entry_form(l: &[u8]) -> EntryForm
-    ensures { EntryHas l.now result }
+// Where a line begins, and its number.
+#[derive(Clone, Copy)]
+struct Place {
+    at: usize,
+    line: usize,
+}
+
+// Line 1: the number of events, and where line 2 begins.
+fn first_line(s: &[u8]) -> Result<(usize, usize), Refusal>
+    ensures { FirstSays s.now result }
 {
-    match text::two_parts(l, SPACE) {
-        Two::Not => EntryForm::Bad,
-        Two::At(k) => {
-            if !text::is_name(&l[..k]) {
-                return EntryForm::Bad;
-            }
-            let b = k + 1;
-            match text::number_up_to(&l[b..], MOST_STATEMENTS) {
-                Number::Is(v) => EntryForm::Is(k, v),
-                Number::Above => EntryForm::Bad,
-                Number::Not => EntryForm::Bad,
-            }
-        }
+    let e = text::part_end(s, 0, LF);
+    if e == s.len() {
+        return Err(Refusal::LineForm);
+    }
+    match text::number_up_to(&s[..e], EVENTS) {
+        Ok(n) => Ok((n, e + 1)),
+        Err(NoNumber::Above) => Err(Refusal::TooManyEvents),
+        Err(NoNumber::Not) => Err(Refusal::LineForm),
     }
 }
 
-// The number of the event of that name among the first n of the table, or n.
-fn find_name(s: &[u8], places: &[usize], n: usize, m: &[u8]) -> usize
-    requires { Keeps s.now places.now n }
-    ensures { result ≡ find (names_at s.now places.now n) m.now }
+// A line of the contents by itself.
+fn entry_form<'a>(l: &'a [u8]) -> Option<Entry<'a>>
+    ensures { EntryHas l.entry result }
 {
-    let mut i = 0;
-    while i < n {
-        let a = places[2 * i];
-        let e = a + places[2 * i + 1];
-        if text::same_name(&s[a..e], m) {
-            return i;
-        }
-        i += 1;
+    let k = text::two_parts(l, SPACE)?;
+    let name = &l[..k];
+    if !text::is_name(name) {
+        return None;
     }
-    n
+    let statements = text::number_up_to(&l[k + 1..], MOST_STATEMENTS).ok()?;
+    Some(Entry { name, statements })
 }
 
-// A line of the contents: the length of its name, its number of statements, and where the next line begins; or the refusal.
-#[derive(Clone, Copy)]
-enum EntryLine {
-    Lists(usize, usize, usize),
-    Stop(Refusal),
-}
-
-// The line that begins at a, after the first i names.
-fn entry_line(s: &[u8], places: &[usize], i: usize, a: usize) -> EntryLine
-    requires { Keeps s.now places.now i × (a ≤ length s.now) }
-    ensures { EntrySays (names_at s.now places.now i) s.now a result }
+// The line that begins at a, after the contents so far: its event, and where the next line begins.
+fn entry_line<'a>(contents: &Contents<'a>, a: usize) -> Result<(Entry<'a>, usize), Refusal>
+    requires { a ≤ length contents.now.sheet.now }
+    ensures { EntrySays contents.now a result }
 {
+    let s = contents.sheet;
     let e = text::part_end(s, a, LF);
     if e == s.len() {
-        return EntryLine::Stop(Refusal::LineForm);
+        return Err(Refusal::LineForm);
     }
-    match entry_form(&s[a..e]) {
-        EntryForm::Bad => EntryLine::Stop(Refusal::LineForm),
-        EntryForm::Is(k, v) => {
-            let b = a + k;
-            if find_name(s, places, i, &s[a..b]) < i {
-                EntryLine::Stop(Refusal::NameTwice)
-            } else {
-                EntryLine::Lists(k, v, e + 1)
-            }
-        }
+    let entry = entry_form(&s[a..e]).ok_or(Refusal::LineForm)?;
+    if contents.find(entry.name).is_some() {
+        return Err(Refusal::NameTwice);
     }
+    Ok((entry, e + 1))
 }
 
-// The table of contents: of each event where its name begins in the sheet and how long it is, one after the other; and its number of statements.
-#[derive(Clone, Copy)]
-pub struct Table {
-    pub places: [usize; 2 * EVENTS],
-    pub count: [usize; EVENTS],
-}
-
-// Where the next line begins, and its number; or the refusal and its line.
-#[derive(Clone, Copy)]
-enum Place {
-    At(usize, usize),
-    Refused(Refusal, usize),
-}
-
-// How far the contents were read.
-#[derive(Clone, Copy)]
-struct Contents {
-    table: Table,
-    place: Place,
-}
-
-// The n lines of the contents, of which the first is line 2 and begins at start.
-fn contents_of(s: &[u8], n: usize, start: usize) -> Contents
+// The n lines of the contents, of which the first is line 2 and begins at start; and where the next line begins.
+fn contents_of<'a>(
+    s: &'a [u8],
+    n: usize,
+    start: usize,
+) -> Result<(Contents<'a>, usize), SheetRefusal>
     requires { (n ≤ most_events) × Begins s.now 1 start }
-    ensures { ContentsSay words s.now n start result.table result.place }
+    ensures { ContentsSay words s.entry n start result }
 {
-    let mut places = [0usize; 2 * EVENTS];
-    let mut count = [0usize; EVENTS];
+    let mut contents = Contents::begun(s);
     let mut a = start;
-    let mut i = 0;
-    while i < n {
-        match entry_line(s, &places, i, a) {
-            EntryLine::Stop(r) => {
-                return Contents {
-                    table: Table { places, count },
-                    place: Place::Refused(r, i + 2),
-                };
-            }
-            EntryLine::Lists(k, v, next) => {
-                places[2 * i] = a;
-                places[2 * i + 1] = k;
-                count[i] = v;
+    for i in 0..n {
+        match entry_line(&contents, a) {
+            Ok((entry, next)) => {
+                contents.add(entry);
                 a = next;
             }
+            Err(why) => {
+                return Err(SheetRefusal { why, line: i + 2 });
+            }
         }
-        i += 1;
     }
-    Contents {
-        table: Table { places, count },
-        place: Place::At(a, n + 2),
-    }
+    Ok((contents, a))
 }
 
-// A statement line by itself: the length of its words, and their set.
-#[derive(Clone, Copy)]
-enum StatementForm {
-    Is(usize, u16),
-    Bad,
-}
-
-fn statement_form(l: &[u8]) -> StatementForm
+// A statement line by itself: the set of its words, and the other event's name.
+fn statement_form<'a>(l: &'a [u8]) -> Option<(u16, &'a [u8])>
     ensures { StatementHas words l.now result }
 {
-    match text::two_parts(l, SPACE) {
-        Two::Not => StatementForm::Bad,
-        Two::At(k) => match words::union_of(&l[..k]) {
-            Union::Not => StatementForm::Bad,
-            Union::Set(u) => {
-                let b = k + 1;
-                if text::is_name(&l[b..]) {
-                    StatementForm::Is(k, u)
-                } else {
-                    StatementForm::Bad
-                }
-            }
-        },
+    let k = text::two_parts(l, SPACE)?;
+    let set = words::union_of(&l[..k])?;
+    let other = &l[k + 1..];
+    if text::is_name(other) {
+        Some((set, other))
+    } else {
+        None
     }
 }
 
-// A statement line: its set, the other event, and where the next line begins; or the refusal.
-#[derive(Clone, Copy)]
-enum StatementLine {
-    Says(u16, usize, usize),
-    Stop(Refusal),
-}
-
-// The line that begins at a, in the body of event i.
-fn statement_line(s: &[u8], places: &[usize], n: usize, i: usize, a: usize) -> StatementLine
-    requires { Keeps s.now places.now n × (a ≤ length s.now) }
-    ensures { StatementSays words (names_at s.now places.now n) i s.now a result }
+// The line that begins at a, in the body of event i: its set, the other event, and where the next line begins.
+fn statement_line(contents: &Contents, i: usize, a: usize) -> Result<(u16, usize, usize), Refusal>
+    requires { a ≤ length contents.now.sheet.now }
+    ensures { StatementSays words (names contents.now) i contents.now.sheet.now a result }
 {
+    let s = contents.sheet;
     let e = text::part_end(s, a, LF);
     if e == s.len() {
-        return StatementLine::Stop(Refusal::LineForm);
+        return Err(Refusal::LineForm);
     }
-    match statement_form(&s[a..e]) {
-        StatementForm::Bad => StatementLine::Stop(Refusal::LineForm),
-        StatementForm::Is(k, u) => {
-            let b = a + k + 1;
-            let j = find_name(s, places, n, &s[b..e]);
-            if j == n {
-                StatementLine::Stop(Refusal::NoSuchEvent)
-            } else if j == i {
-                StatementLine::Stop(Refusal::AboutItself)
-            } else {
-                StatementLine::Says(u, j, e + 1)
-            }
-        }
+    let (set, other) = statement_form(&s[a..e]).ok_or(Refusal::LineForm)?;
+    let j = contents.find(other).ok_or(Refusal::NoSuchEvent)?;
+    if j == i {
+        return Err(Refusal::AboutItself);
     }
+    Ok((set, j, e + 1))
 }
 
-// The body of event i: so many lines, of which the first is line first and begins at start.
+// The body of event i, from its first line on; and where the next body begins.
 fn body_of(
-    s: &[u8],
-    places: &[usize],
-    n: usize,
+    contents: &Contents,
     i: usize,
-    lines: usize,
-    start: usize,
-    first: usize,
+    start: Place,
     g: &mut [u16],
-) -> Place
-    requires keeps { Keeps s.now places.now n }
-    requires i_lt_n { (i < n) × (n ≤ most_events) × (n * n ≤ length g.old) × (start ≤ length s.now) × (first ≤ start + (most_events + 2)) }
-    ensures { BodySays words s.now (names_at s.now places.now n) n i lines start first g.old g.new result }
+) -> Result<Place, SheetRefusal>
+    requires i_lt_n { (i < contents.now.n) × (contents.now.n * contents.now.n ≤ length g.old) }
+    requires inside { (start.at ≤ length contents.now.sheet.now) × (start.line ≤ start.at + (most_events + 2)) }
+    ensures { BodySays words contents.now i start g.old g.new result }
 {
-    let mut a = start;
-    let mut k = 0;
-    while k < lines {
-        match statement_line(s, places, n, i, a) {
-            StatementLine::Stop(r) => {
-                return Place::Refused(r, first + k);
-            }
-            StatementLine::Says(u, j, next) => {
-                statements::cut(g, n, i, j, u);
+    let mut a = start.at;
+    let lines = contents.entries[i].statements;
+    for k in 0..lines {
+        match statement_line(contents, i, a) {
+            Ok((set, j, next)) => {
+                statements::cut(g, contents.n, i, j, set);
                 a = next;
             }
+            Err(why) => {
+                return Err(SheetRefusal {
+                    why,
+                    line: start.line + k,
+                });
+            }
         }
-        k += 1;
     }
-    Place::At(a, first + k)
+    Ok(Place {
+        at: a,
+        line: start.line + lines,
+    })
 }
 
-// How many events a sheet has, or the refusal and its line.
-#[derive(Clone, Copy)]
-pub enum SheetAnswer {
-    Events(usize),
-    Refused(Refusal, usize),
-}
-
-// The bodies of all n events, from start on, after which nothing may stand.
-fn bodies_of(
-    s: &[u8],
-    places: &[usize],
-    count: &[usize],
-    n: usize,
-    start: usize,
-    g: &mut [u16],
-) -> SheetAnswer
-    requires keeps { Keeps s.now places.now n }
-    requires n_in_bounds { (n ≤ length count.now) × (n ≤ most_events) × (n * n ≤ length g.old) × (start ≤ length s.now) }
-    ensures { BodiesSay words s.now (names_at s.now places.now n) (take n count.now) n start g.old g.new result }
+// The bodies of all events, from start on, after which nothing may stand.
+fn bodies_of(contents: &Contents, start: usize, g: &mut [u16]) -> Result<(), SheetRefusal>
+    requires { (contents.now.n * contents.now.n ≤ length g.old) × (start ≤ length contents.now.sheet.now) }
+    ensures { BodiesSay words contents.now start g.old g.new result }
 {
-    let mut a = start;
-    let mut line = n + 2;
-    let mut i = 0;
-    while i < n {
-        match body_of(s, places, n, i, count[i], a, line, g) {
-            Place::Refused(r, l) => {
-                return SheetAnswer::Refused(r, l);
-            }
-            Place::At(next, l) => {
-                a = next;
-                line = l;
-            }
-        }
-        i += 1;
+    let mut place = Place {
+        at: start,
+        line: contents.n + 2,
+    };
+    for i in 0..contents.n {
+        place = body_of(contents, i, place, g)?;
     }
-    if a == s.len() {
-        SheetAnswer::Events(n)
+    if place.at == contents.sheet.len() {
+        Ok(())
     } else {
-        SheetAnswer::Refused(Refusal::LineForm, line)
+        Err(SheetRefusal {
+            why: Refusal::LineForm,
+            line: place.line,
+        })
     }
-}
-
-// The answer to a sheet, and its table of contents.
-#[derive(Clone, Copy)]
-pub struct Reading {
-    pub table: Table,
-    pub answer: SheetAnswer,
 }
 
 // The contents and the bodies, from line 2 on, which begins at start.
-fn lines_into(s: &[u8], n: usize, start: usize, g: &mut [u16]) -> Reading
+fn lines_into<'a>(
+    s: &'a [u8],
+    n: usize,
+    start: usize,
+    g: &mut [u16],
+) -> Result<Contents<'a>, SheetRefusal>
     requires { (n ≤ most_events) × Begins s.now 1 start × (n * n ≤ length g.old) }
-    ensures { SheetSays (contents words n [] [] (parts_from s.now start) 2) s.now g.new result.table result.answer }
+    ensures { SheetSays (contents words n [] [] (parts_from s.now start) 2) s.entry g.new result }
 {
-    let contents = contents_of(s, n, start);
-    let table = contents.table;
-    let place = contents.place;
-    match place {
-        Place::Refused(r, l) => Reading {
-            table,
-            answer: SheetAnswer::Refused(r, l),
-        },
-        Place::At(next, _) => {
-            let places = table.places;
-            let count = table.count;
-            statements::fill_start(g, n);
-            let answer = bodies_of(s, &places, &count, n, next, g);
-            Reading { table, answer }
-        }
-    }
+    let (contents, bodies) = contents_of(s, n, start)?;
+    statements::fill_start(g, n);
+    bodies_of(&contents, bodies, g)?;
+    Ok(contents)
 }
 
-// A refusal, with a table that says nothing.
-fn refused(r: Refusal, line: usize) -> Reading
-    ensures { result.answer ≡ SheetAnswer.Refused r line }
-{
-    Reading {
-        table: Table {
-            places: [0usize; 2 * EVENTS],
-            count: [0usize; EVENTS],
-        },
-        answer: SheetAnswer::Refused(r, line),
-    }
-}
-
-// The whole sheet, in one pass: its grid in the first n × n cells of the room lent, and its table of contents.
-pub fn read_into(s: &[u8], g: &mut [u16]) -> Reading
+// The whole sheet, in one pass: its grid in the first n × n cells of the room lent, and its contents.
+pub fn read_into<'a>(s: &'a [u8], g: &mut [u16]) -> Result<Contents<'a>, SheetRefusal>
     requires { room_cells ≤ length g.old }
-    ensures { SheetSays (sheet s.now) s.now g.new result.table result.answer }
+    ensures { SheetSays (sheet s.now) s.entry g.new result }
 {
     if MOST_BYTES < s.len() {
-        return refused(Refusal::SheetTooLong, 0);
+        return Err(SheetRefusal {
+            why: Refusal::SheetTooLong,
+            line: 0,
+        });
     }
-    let e = text::part_end(s, 0, LF);
-    if e == s.len() {
-        return refused(Refusal::LineForm, 1);
-    }
-    match text::number_up_to(&s[..e], EVENTS) {
-        Number::Is(n) => lines_into(s, n, e + 1, g),
-        Number::Above => refused(Refusal::TooManyEvents, 1),
-        Number::Not => refused(Refusal::LineForm, 1),
+    match first_line(s) {
+        Ok((n, next)) => lines_into(s, n, next, g),
+        Err(why) => Err(SheetRefusal { why, line: 1 }),
     }
 }
 
-// Reads a sheet into a room of 1,024 cells. A refusal changes no cell.
-pub fn read_sheet(s: &[u8], room: &mut [u16]) -> SheetAnswer
+// Reads a sheet into a room of 1,024 cells: how many events it has. A refusal changes no cell.
+pub fn read_sheet(s: &[u8], room: &mut [u16]) -> Result<usize, SheetRefusal>
     ensures { Reads s.now room.old result room.new }
 {
     if room.len() != ROOM_CELLS {
-        return SheetAnswer::Refused(Refusal::WrongLength, 0);
+        return Err(SheetRefusal {
+            why: Refusal::WrongLength,
+            line: 0,
+        });
     }
     let mut g = [0u16; ROOM_CELLS];
-    let reading = read_into(s, &mut g);
-    let answer = reading.answer;
-    match answer {
-        SheetAnswer::Refused(r, l) => SheetAnswer::Refused(r, l),
-        SheetAnswer::Events(n) => {
-            grid::copy(room, &g, n * n);
-            SheetAnswer::Events(n)
-        }
-    }
-}
-
-// The name of event i of n, by the table of contents; the empty part at the sheet's beginning where there is no event i.
-pub fn name_at<'a>(s: &'a [u8], places: &[usize], n: usize, i: usize) -> &'a [u8]
-    requires { Keeps s.now places.now n }
-    ensures { PartAt s.entry places.now n i result }
-{
-    if i < n {
-        let a = places[2 * i];
-        let e = a + places[2 * i + 1];
-        &s[a..e]
-    } else {
-        &s[..0]
-    }
+    let n = read_into(s, &mut g)?.n;
+    grid::copy(room, &g, n * n);
+    Ok(n)
 }
 
 // The name of event i as a part of the sheet; the empty part at its beginning for a sheet that is refused, or where there is no event i.
@@ -379,14 +249,8 @@ pub fn name_of<'a>(s: &'a [u8], i: usize) -> &'a [u8]
     ensures { NamePart s.entry i result }
 {
     let mut g = [0u16; ROOM_CELLS];
-    let reading = read_into(s, &mut g);
-    let table = reading.table;
-    let answer = reading.answer;
-    match answer {
-        SheetAnswer::Refused(_, _) => &s[..0],
-        SheetAnswer::Events(n) => {
-            let places = table.places;
-            name_at(s, &places, n, i)
-        }
+    match read_into(s, &mut g) {
+        Ok(contents) => contents.name(i),
+        Err(_) => &s[..0],
     }
 }

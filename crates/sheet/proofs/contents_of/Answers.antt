@@ -1,83 +1,95 @@
+-- Each line lists one event more, or is the first that is refused.
 use mathlib.Core.Path.{◌≡◌, refl, sym, ◌∙◌, ap, subst}
 use mathlib.Core.List.{List, [], ◌∷◌, ◌++◌}
-use Prim.Native.Nat.{ℕ, suc, ◌+◌, ◌*◌, ◌-◌, ◌<◌}
+use Prim.Native.Nat.{ℕ, suc, ◌+◌, ◌-◌}
 use native.Mathlib.Omega.{arith}
-use native.Mathlib.Nat.{sub-zero}
-use native.Mathlib.Numerals.{add-one}
-use lib.ListN.{length, take, length-set}
-use lib.Seq.{take-suc-set}
+use lib.ListN.{length}
+use denote.Ref.{Bor}
 use Rattle.words.specs.Words.{words}
-use Rattle.sheet.specs.Sheet.{contents}
-use Rattle.sheet.specs.Steps.{parts_from, names_at}
+use Rattle.sheet.specs.Sheet.{Outcome, contents}
+use Rattle.sheet.specs.Answers.{name_start}
+use Rattle.sheet.specs.Steps.{parts_from, Ends, Begins, PartFrom, Stand, names, counts, entries_of}
 use Rattle.sheet.proofs.LineLaws.{begins_next}
-use Rattle.sheet.proofs.ContentsLaws.{contents_stop, contents_read, contents_done, contents_cong, names_more, within_more, starts_more}
+use Rattle.sheet.proofs.ContentsLaws.{contents_stop, contents_read, contents_done, contents_cong, begun-names, begun-counts, begun-stand, added-n, added-names, added-counts, added-stand}
+use Rattle.sheet.proofs.BodyLaws.{bodies_cong}
 use Rattle.sheet.proofs.contents_of.Goals as goal
 
+-- what n lines from start on say of the sheet s
+abbrev says : ℕ → ℕ → Bor (List ℕ) → Outcome
+says n start s = contents words n [] [] (parts_from s.now start) 2
+
 pub loop-i-init : goal.loop-i-init
-unfolding names_at
 loop-i-init c =
+    let it = c.begun-contents.result in
+    let b = c.begun-contents.ensures in
+    let z : c.args.n - 0 ≡ c.args.n = omega arith in
     record {
-      few = omega arith;
-      places-long = refl;
-      count_long = refl;
-      within = λ i h. absurd (omega arith);
-      starts = λ i h. absurd (omega arith);
-      begins = c.requires.1;
-      says = rw sub-zero;
+      keeps = record { sheet = refl; events = b.1; stand = begun-stand it it.sheet b.1 };
+      begins = subst (λ (s : Bor (List ℕ)). Begins s.now 1 c.args.start) (sym b.0) c.requires.1;
+      says = rw (z, begun-names it b.1, begun-counts it b.1);
     }
 
--- what the line says
-pub returns-in-Stop : goal.returns-in-Stop
-returns-in-Stop c =
-    let more : c.args.n - c.loop-i.i ≡ suc (c.args.n - (c.loop-i.i + 1)) = omega arith in
-    c.loop-i.invariant.says
-    ∙ contents_stop words (c.args.n - c.loop-i.i) (c.args.n - (c.loop-i.i + 1)) more (names_at c.args.s.now c.loop-i.places c.loop-i.i) (take c.loop-i.i c.loop-i.count)
-    (parts_from c.args.s.now c.loop-i.a) (c.loop-i.i + 2) c.in-Stop.r c.in-Stop.ensures
+pub entry_line-requires : goal.entry_line-requires
+entry_line-requires c = let I = c.loop-i.invariant in omega (arith, I.begins.inside, ap (λ (s : Bor (List ℕ)). length s.now) I.keeps.sheet)
 
 pub loop-i-preserved : goal.loop-i-preserved
 loop-i-preserved c =
-    let e = c.in-Lists.ensures in
     let I = c.loop-i.invariant in
-    let s = c.args.s.now in
+    let s = c.begun-contents.result.sheet in
+    let it = c.loop-i.contents in
+    let to = c.add.new.self in
     let i = c.loop-i.i in
-    let ns = names_at s c.loop-i.places i in
+    let a = c.loop-i.a in
+    let e = c.in-Ok.ensures in
+    let q = c.add.ensures.more in
     let more : c.args.n - i ≡ suc (c.args.n - (i + 1)) = omega arith in
-    -- the table has the two numbers of event i
-    let has : 2 * i + 1 < length c.loop-i.places = omega arith in
-    let hc : i < length c.loop-i.count = omega arith in
+    let ends = subst (λ (x : Bor (List ℕ)). Ends x.now a c.in-Ok.next) I.keeps.sheet e.ends in
+    let part = subst (λ (x : Bor (List ℕ)). PartFrom x a c.in-Ok.entry.name) I.keeps.sheet e.part in
+    let at : a ≡ name_start s.now it.n = sym (ap (name_start s.now) I.keeps.events ∙ I.begins.bytes) in
     record {
-      few = omega arith;
-      places-long = simp length-set I.places-long;
-      count_long = simp length-set I.count_long;
-      within = within_more s c.loop-i.places i c.loop-i.a c.in-Lists.k has I.within (omega (arith, e.inside, e.ends.high));
-      starts = starts_more s c.loop-i.places i c.loop-i.a c.in-Lists.k has I.starts I.begins;
-      begins = begins_next s (i + 1) c.loop-i.a c.in-Lists.next I.begins e.ends;
+      keeps = record {
+        sheet = c.add.ensures.same ∙ I.keeps.sheet;
+        events = omega (arith, added-n it to c.in-Ok.entry q, I.keeps.events);
+        stand = added-stand it to c.in-Ok.entry q s I.keeps.stand (subst (λ (x : ℕ). PartFrom s x c.in-Ok.entry.name) at part);
+      };
+      begins = begins_next s.now (i + 1) a c.in-Ok.next I.begins ends;
       says =
           I.says
-          ∙ contents_read words (c.args.n - i) (c.args.n - (i + 1)) more ns (take i c.loop-i.count) (parts_from s c.loop-i.a) (i + 2) e.sound
+          ∙ contents_read words (c.args.n - i) (c.args.n - (i + 1)) more (names it) (counts it) (parts_from s.now a) (i + 2) (rw I.keeps.sheet at e.sound)
           ∙ contents_cong words (c.args.n - (i + 1))
-          (ap (λ (x : List ℕ). ns ++ x ∷ []) e.name ∙ sym (names_more s c.loop-i.places i c.loop-i.a c.in-Lists.k has))
-          (ap (λ (x : ℕ). take i c.loop-i.count ++ x ∷ []) e.count ∙ sym (rw add-one (take-suc-set c.loop-i.count i c.in-Lists.v hc)))
-          e.ends.rest
+          (ap (λ (x : List ℕ). names it ++ x ∷ []) (rw I.keeps.sheet at e.name) ∙ sym (added-names it to c.in-Ok.entry q))
+          (ap (λ (x : ℕ). counts it ++ x ∷ []) (rw I.keeps.sheet at e.count) ∙ sym (added-counts it to c.in-Ok.entry q))
+          ends.rest
           (omega arith);
     }
 
+pub returns-in-Err : goal.returns-in-Err
+returns-in-Err c =
+    let I = c.loop-i.invariant in
+    let s = c.begun-contents.result.sheet in
+    let it = c.loop-i.contents in
+    let i = c.loop-i.i in
+    let more : c.args.n - i ≡ suc (c.args.n - (i + 1)) = omega arith in
+    ap (says c.args.n c.args.start) (sym c.begun-contents.ensures.0)
+    ∙ I.says
+    ∙ contents_stop words (c.args.n - i) (c.args.n - (i + 1)) more (names it) (counts it) (parts_from s.now c.loop-i.a) (i + 2) c.in-Err.why (rw I.keeps.sheet at c.in-Err.ensures)
+
 pub returns : goal.returns
 returns c =
-    let e : c.loop-i.i ≡ c.args.n = omega arith in
+    let I = c.loop-i.invariant in
+    let s = c.begun-contents.result.sheet in
+    let b = c.begun-contents.ensures.0 in
+    let it = c.loop-i.contents in
     record {
-      inside = c.loop-i.invariant.begins.inside;
-      table = record {
-        places-long = c.loop-i.invariant.places-long;
-        count_long = c.loop-i.invariant.count_long;
-        within = λ j h. c.loop-i.invariant.within j (omega arith);
-        starts = λ j h. c.loop-i.invariant.starts j (omega arith);
+      inside = omega (arith, I.begins.inside, ap (λ (x : Bor (List ℕ)). length x.now) b);
+      keeps = record {
+        sheet = I.keeps.sheet ∙ b;
+        events = omega (arith, I.keeps.events);
+        stand = subst (λ (x : Bor (List ℕ)). Stand x (entries_of it)) b I.keeps.stand;
       };
       says =
-          subst
-          (λ (x : ℕ). contents words c.args.n [] [] (parts_from c.args.s.now c.args.start) 2
-          ≡ contents words (c.args.n - x) (names_at c.args.s.now c.loop-i.places x) (take x c.loop-i.count) (parts_from c.args.s.now c.loop-i.a) (x + 2))
-          e c.loop-i.invariant.says
-          ∙ contents_done words (c.args.n - c.args.n) (omega arith) (names_at c.args.s.now c.loop-i.places c.args.n) (take c.args.n c.loop-i.count) (parts_from c.args.s.now c.loop-i.a)
-          (c.args.n + 2);
+          ap (says c.args.n c.args.start) (sym b)
+          ∙ I.says
+          ∙ contents_done words (c.args.n - c.loop-i.i) (omega arith) (names it) (counts it) (parts_from s.now c.loop-i.a) (c.loop-i.i + 2)
+          ∙ bodies_cong words (names it) (counts it) refl refl (ap (λ (x : Bor (List ℕ)). parts_from x.now c.loop-i.a) (sym I.keeps.sheet)) (omega (arith, I.keeps.events));
     }
