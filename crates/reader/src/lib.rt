@@ -46,10 +46,7 @@ impl<'a> Reader<'a> {
     pub fn moved(self, at: usize) -> Reader<'a>
         ensures { (result.sheet ≡ self.entry.sheet) × (result.at ≡ at) }
     {
-        Reader {
-            sheet: self.sheet,
-            at,
-        }
+        Reader { at, ..self }
     }
 
     // The line that begins at the reader's place.
@@ -71,20 +68,11 @@ pub fn line_from(sheet: &[u8], at: usize) -> NextLine
 pub fn count_lines(sheet: &[u8]) -> usize
     ensures { result ≡ line_count sheet.now }
 {
+    let mut reader = Reader::begun(sheet);
     let mut count = 0;
-    let mut at = 0;
-    loop {
-        match line_from(sheet, at) {
-            NextLine::Ends(e) => {
-                at = e + 1;
-            }
-            NextLine::Unended => {
-                return count;
-            }
-            NextLine::Nothing => {
-                return count;
-            }
-        }
+    while let NextLine::Ends(e) = reader.line() {
+        reader = reader.moved(e + 1);
         count += 1;
     }
+    count
 }
