@@ -10,14 +10,14 @@ use Rattle.std.specs.Prelude.{Option, Some}
 use denote.Ref.{Bor}
 use lib.Dec.{eqb}
 use lib.ListN.{length, take, drop, get_or, replicate, drop_of_length-le}
-use lib.Seq.{drop-cons, drop-drop}
+use lib.Seq.{drop-cons}
 use borrow.Author.Tests.{lt-ltb, le-ltb, eq-eqb, ne_eqb}
 use Rattle.refusal.specs.Numbers.{number_of}
 use Rattle.refusal.specs.declared.Refusal.{Refusal}
 use Rattle.text.specs.Text.{split}
 use Rattle.text.specs.Names.{is_name}
 use Rattle.text.specs.Steps.{PartEnd}
-use Rattle.text.proofs.PartLaws.{part_length, split-some, drop-take}
+use Rattle.text.proofs.PartLaws.{split-some}
 use Rattle.text.proofs.TextLaws.{and_false}
 use Rattle.words.specs.Words.{Word, joined, are_words, union}
 use Rattle.statements.specs.Statements.{Statement}

@@ -2,22 +2,20 @@
 use mathlib.Core.Path.{◌≡◌, refl, sym, ◌∙◌, ap}
 use mathlib.Core.Bool.{Bool, true, false, cond}
 use mathlib.Core.List.{List, [], ◌∷◌, ◌++◌}
-use Prim.Native.Nat.{ℕ, zero, suc, ◌+◌, ◌*◌, ◌-◌, ◌≤◌, ◌<◌}
+use Prim.Native.Nat.{ℕ, zero, suc, ◌+◌, ◌-◌, ◌≤◌, ◌<◌}
 use native.Mathlib.Omega.{arith}
 use native.Mathlib.Decide.{dec_lt}
-use native.Mathlib.Numerals.{add-one}
 use lib.Dec.{eqb, ltb}
-use lib.ListN.{length, take, drop, get_or, set, length-set, length-append, length-map, get_or-append}
-use lib.Seq.{length-take-le, drop-cons, take-take, get_or_at, get_or-set_same, get_or-set_other}
+use lib.ListN.{length, take, drop, get_or, length-append, length-map, get_or-append}
+use lib.Seq.{length-take-le, get_or_at}
 use borrow.Author.Tests.{ltb-true, ltb-false, le-leb, lt-leb}
 use Rattle.refusal.specs.Numbers.{number_of}
 use Rattle.refusal.specs.declared.Refusal.{Refusal}
 use Rattle.text.specs.Text.{is_number, value}
 use Rattle.text.specs.Names.{is_name, same_name}
 use Rattle.text.specs.Steps.{PartEnd}
-use Rattle.text.proofs.PartLaws.{part_length}
 use Rattle.words.specs.Words.{Word}
-use Rattle.sheet.specs.Sheet.{refused, most_events, most_statements, lf, fields, name_in, count_in, is_entry, find, listed, entry_fault, owners, next, line_fault, bodies, contents}
+use Rattle.sheet.specs.Sheet.{refused, most_statements, lf, fields, name_in, count_in, is_entry, find, listed, entry_fault, owners, next, line_fault, bodies, contents}
 use Rattle.std.specs.Prelude.{Option, Some, None, Result, Ok, Err, position, map, not}
 use Rattle.std.specs.List.{position_or_len, slice_get}
 use Rattle.std.specs.Result.{result_ok}
@@ -33,7 +31,7 @@ use Rattle.sheet.specs.Answers.{name_start}
 use Rattle.sheet.specs.Steps.{parts_from, entries_of, names, counts, name_in_entry, count_in_entry, Stand, PartFrom, EntryIs, EntryHas}
 use Rattle.sheet.specs.declared.contents.Entry.{Entry}
 use Rattle.sheet.specs.declared.contents.Contents.{Contents}
-use Rattle.sheet.proofs.LineLaws.{line-is, line-there, line-ends, or_refused_lem}
+use Rattle.sheet.proofs.LineLaws.{line-there, or_refused_lem}
 
 -- ---- a line by itself
 

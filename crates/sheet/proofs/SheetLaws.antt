@@ -1,11 +1,11 @@
 -- Laws of the whole sheet: its first line, the reading of the rest, and what the two functions hand back.
-use mathlib.Core.Path.{◌≡◌, refl, sym, ◌∙◌, ap, subst}
+use mathlib.Core.Path.{◌≡◌, refl, ◌∙◌, ap}
 use mathlib.Core.Bool.{true, false}
 use mathlib.Core.List.{List, []}
 use Prim.Native.Nat.{ℕ, ◌+◌, ◌*◌, ◌≤◌, ◌<◌}
 use native.Mathlib.Omega.{arith}
 use native.Mathlib.Nat.{sub-zero}
-use lib.ListN.{length, take, length-take}
+use lib.ListN.{length, take}
 use borrow.Author.Tests.{lt-ltb, le-ltb}
 use Rattle.refusal.specs.Numbers.{number_of}
 use Rattle.refusal.specs.declared.Refusal.{Refusal}
@@ -14,7 +14,7 @@ use Rattle.text.specs.Steps.{PartEnd}
 use Rattle.words.specs.Words.{Word, words}
 use Rattle.statements.specs.Grid.{start_grid}
 use Rattle.statements.proofs.GridLaws.{grid_front}
-use Rattle.sheet.specs.Sheet.{Outcome, refused, most_bytes, most_events, lf, parts, first_fault, next, line_fault, contents, sheet}
+use Rattle.sheet.specs.Sheet.{refused, most_bytes, most_events, lf, parts, first_fault, line_fault, contents, sheet}
 use denote.Ref.{Bor}
 use Rattle.sheet.specs.Steps.{parts_from, names, counts, FirstRead, ContentsRead, BodiesRead, SheetRead}
 use Rattle.sheet.specs.declared.contents.Contents.{Contents}

@@ -1,6 +1,6 @@
 -- What the inner functions of the sheet reader say of their steps. A reader of the public statements need not read this.
 -- `known` are the words there are.
-use Rattle.std.specs.Prelude.{◌≡◌, true, false, cond, List, [], ◌∷◌, ◌++◌, ℕ, ◌+◌, ◌*◌, ◌≤◌, ◌<◌, length, take, drop, get_or, replicate, map, Option, Some, None, Result, Ok, Err}
+use Rattle.std.specs.Prelude.{◌≡◌, true, false, List, [], ◌++◌, ℕ, ◌+◌, ◌*◌, ◌≤◌, ◌<◌, length, take, drop, get_or, replicate, map, Option, Some, None, Result, Ok, Err}
 use Rattle.std.specs.List.{slice_get}
 use Rattle.std.specs.Borrow.{Bor}
 use Rattle.refusal.specs.Numbers.{number_of}
@@ -10,7 +10,7 @@ use Rattle.text.specs.Names.{longest_name}
 use Rattle.words.specs.Words.{Word}
 use Rattle.statements.specs.Statements.{Statement}
 use Rattle.statements.specs.Grid.{cut_all, grid_of}
-use Rattle.sheet.specs.Sheet.{Outcome, refused, accepted, most_events, lf, parts, first_fault, listed, name_in, count_in, is_entry, entry_fault, find, set_in, other_in, is_statement, statement_fault, owners, next, line_fault, bodies, contents}
+use Rattle.sheet.specs.Sheet.{Outcome, refused, accepted, most_events, lf, parts, first_fault, name_in, count_in, is_entry, entry_fault, find, set_in, other_in, is_statement, statement_fault, owners, next, line_fault, bodies, contents}
 use Rattle.sheet.specs.Answers.{bytes_in, name_start}
 use Rattle.sheet.specs.declared.SheetRefusal.{SheetRefusal}
 use Rattle.sheet.specs.declared.Place.{Place}

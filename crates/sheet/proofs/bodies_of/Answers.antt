@@ -1,9 +1,9 @@
-use mathlib.Core.Path.{◌≡◌, refl, sym, ◌∙◌, ap}
+use mathlib.Core.Path.{◌≡◌, refl, ◌∙◌, ap}
 use mathlib.Core.List.{List, [], ◌++◌}
 use Prim.Native.Nat.{ℕ, ◌+◌, ◌<◌}
 use native.Mathlib.Omega.{arith}
 use borrow.Author.Rules.{rules}
-use lib.ListN.{length, drop, get_or, replicate}
+use lib.ListN.{drop, get_or, replicate}
 use Rattle.words.specs.Words.{words}
 use Rattle.statements.specs.Grid.{cut_all}
 use Rattle.statements.proofs.GridLaws.{cut-append}

@@ -1,7 +1,7 @@
 -- A line without its LF and one that is no entry are 9, a name found among those before it is 10.
-use mathlib.Core.Path.{refl, sym, ◌∙◌, ap}
+use mathlib.Core.Path.{sym}
 use native.Mathlib.Omega.{arith}
-use Rattle.sheet.specs.Steps.{names, entries_of}
+use Rattle.sheet.specs.Steps.{names}
 use Rattle.sheet.proofs.LineLaws.{line_missing, line-ends, line-is}
 use Rattle.sheet.proofs.ContentsLaws.{entry_had, read_twice, read_new, is_found, not_found}
 use Rattle.sheet.proofs.entry_line.Goals as goal

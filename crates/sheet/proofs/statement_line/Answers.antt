@@ -1,12 +1,9 @@
 -- A line without its LF and one that is no statement are 9, a name that is not found is 11, and event i itself is 12.
 use mathlib.Core.Path.{sym, ◌∙◌}
 use native.Mathlib.Omega.{arith}
-use lib.ListN.{length}
 use borrow.Author.Rules.{rules}
-use borrow.Author.Tests.{ltb-true, ltb-false}
 use Rattle.words.specs.Words.{words}
-use Rattle.sheet.specs.Sheet.{find}
-use Rattle.sheet.specs.Steps.{names, entries_of}
+use Rattle.sheet.specs.Steps.{names}
 use Rattle.sheet.proofs.LineLaws.{line_missing}
 use Rattle.sheet.proofs.ContentsLaws.{found_at, not_listed}
 use Rattle.sheet.proofs.BodyLaws.{statement_had, read_11, read_12, read_says}
