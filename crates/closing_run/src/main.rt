@@ -5,20 +5,19 @@
 #![tactic(auto)]
 
 use cases::Answer;
-use plain::PlainAnswer;
-use quick::QuickAnswer;
+use refusal::Refusal;
 use std::io;
 use std::io::{Read, Write};
 
 // A case has at most so many cells.
 const CELLS: usize = 1100;
 
-fn told_quick(answer: QuickAnswer) -> Answer {
+fn told_quick(answer: Result<takes::End, Refusal>) -> Answer {
     let (kind, takes) = match answer {
-        QuickAnswer::Closed(takes) => (0, takes),
-        QuickAnswer::Contradiction(takes) => (1, takes),
-        QuickAnswer::Paused(takes) => (2, takes),
-        QuickAnswer::Refused(why) => return Answer::refused(why),
+        Ok(takes::End::Closed(takes)) => (0, takes),
+        Ok(takes::End::Contradiction(takes)) => (1, takes),
+        Ok(takes::End::Paused(takes)) => (2, takes),
+        Err(why) => return Answer::refused(why),
     };
     Answer {
         kind,
@@ -26,11 +25,11 @@ fn told_quick(answer: QuickAnswer) -> Answer {
     }
 }
 
-fn told_plain(answer: PlainAnswer) -> Answer {
+fn told_plain(answer: Result<plain::End, Refusal>) -> Answer {
     match answer {
-        PlainAnswer::Closed => Answer { kind: 0, number: 0 },
-        PlainAnswer::Contradiction => Answer { kind: 1, number: 0 },
-        PlainAnswer::Refused(why) => Answer::refused(why),
+        Ok(plain::End::Closed) => Answer { kind: 0, number: 0 },
+        Ok(plain::End::Contradiction) => Answer { kind: 1, number: 0 },
+        Err(why) => Answer::refused(why),
     }
 }
 

@@ -6,7 +6,7 @@
 ghost use Rattle.std.specs.Prelude.{◌*◌, ◌≤◌, length};
 
 use cases::Answer;
-use placing::CheckAnswer;
+use refusal::Refusal;
 use std::io;
 use std::io::{Read, Write};
 
@@ -25,11 +25,11 @@ fn read_numbers(bytes: &[u8], xs: &mut [i32])
     }
 }
 
-fn told(answer: CheckAnswer) -> Answer {
+fn told(answer: Result<bool, Refusal>) -> Answer {
     match answer {
-        CheckAnswer::Meets => Answer { kind: 0, number: 0 },
-        CheckAnswer::Misses => Answer { kind: 1, number: 0 },
-        CheckAnswer::Refused(why) => Answer::refused(why),
+        Ok(true) => Answer { kind: 0, number: 0 },
+        Ok(false) => Answer { kind: 1, number: 0 },
+        Err(why) => Answer::refused(why),
     }
 }
 

@@ -3,14 +3,14 @@
 // A case is two sets; an answer a refusal's number or 0, and a set.
 #![tactic(auto)]
 
-use relation::SetAnswer;
+use refusal::Refusal;
 use std::io;
 use std::io::{Read, Write};
 
-fn bytes_of(answer: SetAnswer) -> [u8; 3] {
+fn bytes_of(answer: Result<u16, Refusal>) -> [u8; 3] {
     let (number, set) = match answer {
-        SetAnswer::Set(a) => (0, a),
-        SetAnswer::Refused(why) => (refusal::number_of(why), 0u16),
+        Ok(set) => (0, set),
+        Err(why) => (refusal::number_of(why), 0u16),
     };
     let [low, high] = set.to_le_bytes();
     [number, low, high]
