@@ -7,7 +7,8 @@
 ghost use Rattle.std.specs.Prelude.{◌*◌, ◌≤◌, length};
 
 use cases::Answer;
-use search::PlaceAnswer;
+use refusal::Refusal;
+use search::{Looked, Outcome};
 use std::io;
 use std::io::{Read, Write};
 
@@ -26,14 +27,20 @@ fn write_numbers(out: &mut [u8], xs: &[i32])
     }
 }
 
-fn told(answer: PlaceAnswer) -> Answer {
-    let (kind, number) = match answer {
-        PlaceAnswer::Placed(tries) => (0, tries),
-        PlaceAnswer::None(tries) => (1, tries),
-        PlaceAnswer::GaveUp(tries) => (2, tries),
-        PlaceAnswer::Refused(why) => return Answer::refused(why),
+fn told(answer: Result<Looked, Refusal>) -> Answer {
+    let Looked { outcome, tries } = match answer {
+        Ok(looked) => looked,
+        Err(why) => return Answer::refused(why),
     };
-    Answer { kind, number }
+    let kind = match outcome {
+        Outcome::Placed => 0,
+        Outcome::None => 1,
+        Outcome::GaveUp => 2,
+    };
+    Answer {
+        kind,
+        number: tries,
+    }
 }
 
 // Answers one case: whether there was one.
