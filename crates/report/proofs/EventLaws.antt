@@ -9,15 +9,16 @@ use Rattle.placing.specs.Placing.{at, natural_of}
 use Rattle.placing.proofs.SignedLaws.{back, Small, back_is}
 use Rattle.report.specs.Report.{event_line, event_lines}
 use Rattle.report.specs.Steps.{Adds}
+use Rattle.report.specs.declared.page.Page.{Page}
 use Rattle.report.proofs.AddsLaws.{adds_none, adds_then}
 
-pub adds_no_line : (old : List ℕ) (a : ℕ) (names : List (List ℕ)) (xs : List ℤ) → Adds old old a a (event_lines names xs 0)
+pub adds_no_line : (p : Page) (names : List (List ℕ)) (xs : List ℤ) → Adds p p (event_lines names xs 0)
 unfolding event_lines
-adds_no_line old a names xs = adds_none old a
+adds_no_line p names xs = adds_none p
 
-pub adds-line : {old mid new : List ℕ} {a b c : ℕ} (names : List (List ℕ)) (xs : List ℤ) (k : ℕ) (name : List ℕ) (start end : ℕ)
+pub adds-line : {old mid new : Page} (names : List (List ℕ)) (xs : List ℤ) (k : ℕ) (name : List ℕ) (start end : ℕ)
     → name ≡ get_or names k [] → start ≡ natural_of (at xs (2 * k)) → end ≡ natural_of (at xs (2 * k + 1))
-    → Adds old mid a b (event_lines names xs k) → Adds mid new b c (event_line name start end) → Adds old new a c (event_lines names xs (k + 1))
+    → Adds old mid (event_lines names xs k) → Adds mid new (event_line name start end) → Adds old new (event_lines names xs (k + 1))
 unfolding event_lines
 adds-line names xs k name start end p q r u v = rw (add-one k, ← p, ← q, ← r) (adds_then u v)
 

@@ -1,22 +1,36 @@
 -- What the writers inside say of their steps. A reader of the public statements need not read this.
-use Rattle.std.specs.Prelude.{◌≡◌, Bool, true, false, List, [], ◌∷◌, ℕ, ◌+◌, ◌*◌, ◌≤◌, length}
+use Rattle.std.specs.Prelude.{◌≡◌, List, [], ◌∷◌, ℕ, ◌+◌, ◌*◌, ◌≤◌, ℤ, length, take, Result, Ok, Err}
 use Rattle.std.proofs.lemmas.List.Edits.{sets}
+use Rattle.text.specs.Text.{bytes}
 use Rattle.text.specs.Names.{longest_name}
-use Rattle.sheet.specs.Sheet.{Outcome, most_events}
+use Rattle.refusal.specs.Numbers.{number_of}
+use Rattle.statements.specs.Statements.{Statement}
+use Rattle.statements.specs.Grid.{grid_of}
+use Rattle.sheet.specs.Sheet as Sheet
+use Rattle.sheet.specs.Sheet.{refused, accepted, most_events}
 use Rattle.sheet.specs.Steps.{Keeps, Short, names_at}
-use Rattle.theory.specs.Search.{Found}
+use Rattle.search.specs.Rule.{search_of}
+use Rattle.search.specs.Answers.{said_by, room_by}
+use Rattle.search.specs.Steps.{said_with}
+use Rattle.search.specs.declared.Looked.{Looked}
+use Rattle.search.specs.declared.Outcome.{Outcome}
+use Rattle.search.specs.declared.Outcome.TheVariants.{Placed, None, GaveUp}
 use Rattle.report.specs.Text.{decimal, line}
-use Rattle.report.specs.Report.{first_line, all_lines, place_of, triage_of}
+use Rattle.report.specs.Report.{refused_line}
+use Rattle.report.specs.declared.page.Page.{Page}
+use Rattle.report.specs.declared.Contents.{Contents}
+use Rattle.report.specs.declared.SheetRefusal.{SheetRefusal}
 
--- `new` is the room `old` with the text put in byte by byte from `at` on, up to `end`; a byte outside the room is left out
-pub record Adds (old new : List ℕ) (at end : ℕ) (text : List ℕ) : Type 0 where
-  pub next : end ≡ at + length text
-  pub room : new ≡ sets old at text
+-- The page has the text put in byte by byte after what it had; a byte outside the room is left out, and the room is the same one.
+pub record Adds (old new : Page) (text : List ℕ) : Type 0 where
+  pub next : new.len ≡ old.len + length text
+  pub same : new.room.ghost_name ≡ old.room.ghost_name
+  pub room : new.room.now ≡ sets old.room.now old.len text
 
 -- a text of at most so many bytes
-pub record AddsUpTo (most : ℕ) (old new : List ℕ) (at end : ℕ) (text : List ℕ) : Type 0 where
-  pub adds : Adds old new at end text
-  pub within : end ≤ at + most
+pub record AddsUpTo (most : ℕ) (old new : Page) (text : List ℕ) : Type 0 where
+  pub adds : Adds old new text
+  pub within : new.len ≤ old.len + most
 
 -- where a text ends is a number of 64 bits
 abbrev pub most_end : ℕ
@@ -44,16 +58,31 @@ abbrev pub said_line : List ℕ → ℕ → List ℕ
 said_line word tries = line (word ∷ decimal tries ∷ [])
 
 -- n events, whose names the table keeps
-pub record Named (s places : List ℕ) (n : ℕ) : Type 0 where
-  pub few : n ≤ most_events
-  pub keeps : Keeps s places n
-  pub short : Short (names_at s places n)
+pub record Named (s : List ℕ) (c : Contents) : Type 0 where
+  pub few : c.n ≤ most_events
+  pub keeps : Keeps s c.places c.n
+  pub short : Short (names_at s c.places c.n)
 
--- all lines, or the first alone
-abbrev pub found_text : Bool → List (List ℕ) → Found → List ℕ
-found_text true names e = all_lines names e
-found_text false names e = first_line e
+-- what a search came to, with its tries
+abbrev pub word_of : Outcome → List ℕ
+word_of Placed = bytes "placed"
+word_of None = bytes "none"
+word_of GaveUp = bytes "gave-up"
 
-abbrev pub text_of : Bool → ℕ → Outcome → List ℕ
-text_of true allowance o = place_of allowance o
-text_of false allowance o = triage_of allowance o
+-- the line of a refusal, or of what the search came to
+abbrev pub first_said : Result (Contents × Looked) SheetRefusal → List ℕ
+first_said (Ok p) = said_line (word_of p.1.outcome) p.1.tries
+first_said (Err r) = refused_line (number_of r.why) r.line
+
+-- An accepted sheet o: its contents, what the search of its grid came to, and in front of the numbers the placing, where it is one.
+pub record Came (allowance : ℕ) (s : List ℕ) (o : Sheet.Outcome) (numbers : List ℤ) (c : Contents) (l : Looked) : Type 0 where
+  pub named : Named s c
+  pub counts : List ℕ
+  pub statements : List Statement
+  pub says : o ≡ accepted (names_at s c.places c.n) counts statements
+  pub looked : said_with l.outcome l.tries ≡ said_by (search_of c.n allowance (grid_of c.n statements))
+  pub placing : take (2 * c.n) numbers ≡ room_by c.n (search_of c.n allowance (grid_of c.n statements)) (take (2 * c.n) numbers)
+
+abbrev pub Searched : ℕ → List ℕ → Sheet.Outcome → List ℤ → Result (Contents × Looked) SheetRefusal → Type 0
+Searched allowance s o numbers (Ok p) = Came allowance s o numbers p.0 p.1
+Searched allowance s o numbers (Err r) = o ≡ refused (number_of r.why) r.line

@@ -1,11 +1,11 @@
 -- Word, space, number and LF follow each other.
 use Rattle.report.proofs.AddsLaws.{adds_then}
 use native.Mathlib.Omega.{arith}
-use Rattle.report.proofs.put_said.Goals as goal
+use Rattle.report.proofs.page.Page.said_line.Goals as goal
 
 pub returns : goal.returns
 returns c =
     record {
-      adds = adds_then c.put_bytes-a.ensures (adds_then c.put_byte-b.ensures (adds_then c.put_number-c.ensures.adds c.put_byte.ensures));
+      adds = adds_then c.bytes.ensures (adds_then c.byte.ensures (adds_then c.number.ensures.adds c.byte-2.ensures));
       within = omega arith;
     }
