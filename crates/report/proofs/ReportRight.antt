@@ -3,6 +3,7 @@
 use mathlib.Core.Path.{◌≡◌, refl, sym, ◌∙◌}
 use mathlib.Core.Logic.{◌↔◌}
 use mathlib.Core.List.{List, [], append-nil}
+use Rattle.std.proofs.Common.{Ok}
 use Prim.Native.Nat.{ℕ, ◌*◌, ◌≤◌, ◌<◌}
 use native.Mathlib.Omega.{arith}
 use lib.IntN.{ℤ, pos}
@@ -22,8 +23,8 @@ use Rattle.placing.specs.Placing.{Places, NoGaps, at, natural_of}
 use Rattle.placing.specs.Settling.{placing_of}
 use Rattle.placing.proofs.SettleLaws.{placing-at}
 use Rattle.search.specs.Rule.{search_of}
-use Rattle.search.specs.Answers.{ScenarioOf, FirstPlacing}
-use Rattle.search.specs.declared.PlaceAnswer.TheVariants.{Placed, None}
+use Rattle.search.specs.Answers.{looked, ScenarioOf, FirstPlacing}
+use Rattle.search.specs.declared.Outcome.TheVariants.{Placed, None}
 use Rattle.search.proofs.SearchRight.{means}
 use Rattle.report.specs.Report.{laid, Prints}
 
@@ -75,7 +76,7 @@ module _ (s : List ℕ) (names : List (List ℕ)) (counts : List ℕ) (sts : Lis
       → PlacedRight (length names) sts (placing_of (length names) h)
   placed-right h q =
       let f : FirstPlacing (length names) (grid_of (length names) sts) (placing_of (length names) h) =
-      means (length names) (grid_of (length names) sts) grid-is allowance (placed tries h) q (Placed tries) [] (placing_of (length names) h) refl refl in
+      means (length names) (grid_of (length names) sts) grid-is allowance (placed tries h) q (Ok (looked Placed tries)) [] (placing_of (length names) h) refl refl in
       let m = f.meets in
       record {
         placing = m.placing;
@@ -89,7 +90,7 @@ module _ (s : List ℕ) (names : List (List ℕ)) (counts : List ℕ) (sts : Lis
   -- no placing, in whole numbers of any size, meets each statement
   pub none_right : search_of (length names) allowance (grid_of (length names) sts) ≡ none tries → (P : ℕ → Event) → MeetsEach P sts → ⊥
   none_right q P m =
-      means (length names) (grid_of (length names) sts) grid-is allowance (none tries) q (None tries) [] [] refl refl P ((meets-same P).1 m)
+      means (length names) (grid_of (length names) sts) grid-is allowance (none tries) q (Ok (looked None tries)) [] [] refl refl P ((meets-same P).1 m)
 
 -- no number of a placing is negative: what is printed is the number
 pub number_right : (m : ℕ) (h : List ℕ) (p : ℕ) → p < 2 * m → at (placing_of m h) p ≡ pos (natural_of (at (placing_of m h) p))

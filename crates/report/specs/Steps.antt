@@ -8,18 +8,17 @@ use Rattle.statements.specs.Statements.{Statement}
 use Rattle.statements.specs.Grid.{grid_of}
 use Rattle.sheet.specs.Sheet as Sheet
 use Rattle.sheet.specs.Sheet.{refused, accepted, most_events}
-use Rattle.sheet.specs.Steps.{Keeps, Short, names_at}
+use Rattle.sheet.specs.Steps.{Short, names, counts}
+use Rattle.sheet.specs.declared.SheetRefusal.{SheetRefusal}
+use Rattle.sheet.specs.declared.contents.Contents.{Contents}
 use Rattle.search.specs.Rule.{search_of}
 use Rattle.search.specs.Answers.{said_by, room_by}
-use Rattle.search.specs.Steps.{said_with}
 use Rattle.search.specs.declared.Looked.{Looked}
 use Rattle.search.specs.declared.Outcome.{Outcome}
 use Rattle.search.specs.declared.Outcome.TheVariants.{Placed, None, GaveUp}
 use Rattle.report.specs.Text.{decimal, line}
 use Rattle.report.specs.Report.{refused_line}
 use Rattle.report.specs.declared.page.Page.{Page}
-use Rattle.report.specs.declared.Contents.{Contents}
-use Rattle.report.specs.declared.SheetRefusal.{SheetRefusal}
 
 -- The page has the text put in byte by byte after what it had; a byte outside the room is left out, and the room is the same one.
 pub record Adds (old new : Page) (text : List ℕ) : Type 0 where
@@ -57,12 +56,6 @@ most_first = longest_word + most_after
 abbrev pub said_line : List ℕ → ℕ → List ℕ
 said_line word tries = line (word ∷ decimal tries ∷ [])
 
--- n events, whose names the table keeps
-pub record Named (s : List ℕ) (c : Contents) : Type 0 where
-  pub few : c.n ≤ most_events
-  pub keeps : Keeps s c.places c.n
-  pub short : Short (names_at s c.places c.n)
-
 -- what a search came to, with its tries
 abbrev pub word_of : Outcome → List ℕ
 word_of Placed = bytes "placed"
@@ -75,14 +68,14 @@ first_said (Ok p) = said_line (word_of p.1.outcome) p.1.tries
 first_said (Err r) = refused_line (number_of r.why) r.line
 
 -- An accepted sheet o: its contents, what the search of its grid came to, and in front of the numbers the placing, where it is one.
-pub record Came (allowance : ℕ) (s : List ℕ) (o : Sheet.Outcome) (numbers : List ℤ) (c : Contents) (l : Looked) : Type 0 where
-  pub named : Named s c
-  pub counts : List ℕ
+pub record Came (allowance : ℕ) (o : Sheet.Outcome) (numbers : List ℤ) (c : Contents) (l : Looked) : Type 0 where
+  pub few : c.n ≤ most_events
+  pub short : Short (names c)
   pub statements : List Statement
-  pub says : o ≡ accepted (names_at s c.places c.n) counts statements
-  pub looked : said_with l.outcome l.tries ≡ said_by (search_of c.n allowance (grid_of c.n statements))
+  pub says : o ≡ accepted (names c) (counts c) statements
+  pub looked : l ≡ said_by (search_of c.n allowance (grid_of c.n statements))
   pub placing : take (2 * c.n) numbers ≡ room_by c.n (search_of c.n allowance (grid_of c.n statements)) (take (2 * c.n) numbers)
 
-abbrev pub Searched : ℕ → List ℕ → Sheet.Outcome → List ℤ → Result (Contents × Looked) SheetRefusal → Type 0
-Searched allowance s o numbers (Ok p) = Came allowance s o numbers p.0 p.1
-Searched allowance s o numbers (Err r) = o ≡ refused (number_of r.why) r.line
+abbrev pub Searched : ℕ → Sheet.Outcome → List ℤ → Result (Contents × Looked) SheetRefusal → Type 0
+Searched allowance o numbers (Ok p) = Came allowance o numbers p.0 p.1
+Searched allowance o numbers (Err r) = o ≡ refused (number_of r.why) r.line

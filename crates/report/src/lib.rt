@@ -3,15 +3,14 @@
 
 ghost use Rattle.std.specs.Prelude.{◌≡◌, ◌+◌, ◌*◌, ◌≤◌, length};
 ghost use Rattle.sheet.specs.Sheet.{sheet as Sheet·sheet};
-ghost use Rattle.sheet.specs.Steps.{names_at};
+ghost use Rattle.sheet.specs.Steps.{Short, names};
 ghost use Rattle.report.specs.Report.{event_lines, place_text, triage_text, Prints};
-ghost use Rattle.report.specs.Steps.{Adds, AddsUpTo, Named, most_end, most_event, most_first, first_said, Searched};
+ghost use Rattle.report.specs.Steps.{Adds, AddsUpTo, most_end, most_event, most_first, first_said, Searched};
 
 use grid::EVENTS;
 use page::Page;
-use refusal::Refusal;
 use search::{Looked, Outcome};
-use sheet::SheetAnswer;
+use sheet::{Contents, SheetRefusal};
 
 mod page;
 
@@ -25,44 +24,19 @@ const CELLS: usize = EVENTS * EVENTS;
 
 const NUMBERS: usize = 2 * EVENTS;
 
-#[derive(Clone, Copy)]
-pub struct SheetRefusal {
-    pub why: Refusal,
-    pub line: usize,
-}
-
-#[derive(Clone, Copy)]
-pub struct Contents {
-    pub places: [usize; NUMBERS],
-    pub n: usize,
-}
-
-// Reads the sheet and looks for a placing of its grid, the start and the end of each event to the front of the numbers.
-fn searched(
-    sheet: &[u8],
+// Reads the sheet and looks for a placing of its grid, which goes to the front of the numbers: start then end, event by event.
+fn searched<'a>(
+    sheet: &'a [u8],
     allowance: u32,
     numbers: &mut [i32; NUMBERS],
-) -> Result<(Contents, Looked), SheetRefusal>
-    ensures { Searched allowance sheet.now (Sheet·sheet sheet.now) numbers.new result }
+) -> Result<(Contents<'a>, Looked), SheetRefusal>
+    ensures { Searched allowance (Sheet·sheet sheet.now) numbers.new result }
 {
     let mut cells = [0u16; CELLS];
-    let reading = sheet::read_into(sheet, &mut cells);
-    let answer = reading.answer;
-    match answer {
-        SheetAnswer::Refused(why, line) => Err(SheetRefusal { why, line }),
-        SheetAnswer::Events(n) => {
-            let table = reading.table;
-            let places = table.places;
-            let contents = Contents { places, n };
-            let looked = search::search_accepted(
-                &cells[..n * n],
-                n,
-                allowance,
-                &mut numbers[..2 * n],
-            );
-            Ok((contents, looked))
-        }
-    }
+    let contents = sheet::read_into(sheet, &mut cells)?;
+    let n = contents.n;
+    let looked = search::search_accepted(&cells[..n * n], n, allowance, &mut numbers[..2 * n]);
+    Ok((contents, looked))
 }
 
 // The first line: the refusal, or what the search came to.
@@ -84,15 +58,14 @@ fn first_line(page: &mut Page, found: &Result<(Contents, Looked), SheetRefusal>)
 }
 
 // One line an event, in contents order; the numbers are the starts and ends.
-fn event_lines(page: &mut Page, s: &[u8], contents: &Contents, numbers: &[i32])
-    requires { Named s.now contents.now × (length numbers.now ≡ 2 * contents.now.n) × (page.old.len + most_event * contents.now.n ≤ most_end) }
-    ensures { Adds page.old page.new (event_lines (names_at s.now contents.now.places contents.now.n) numbers.now contents.now.n) }
+fn event_lines(page: &mut Page, contents: &Contents, numbers: &[i32])
+    requires { Short (names contents.now) × (length numbers.now ≡ 2 * contents.now.n) × (page.old.len + most_event * contents.now.n ≤ most_end) }
+    ensures { Adds page.old page.new (event_lines (names contents.now) numbers.now contents.now.n) }
 {
     for i in 0..contents.n {
-        let name = sheet::name_at(s, &contents.places, contents.n, i);
         let start = placing::natural(numbers[2 * i]);
         let end = placing::natural(numbers[2 * i + 1]);
-        page.event_line(name, start, end);
+        page.event_line(contents.name(i), start, end);
     }
 }
 
@@ -106,7 +79,7 @@ pub fn place_report(sheet: &[u8], allowance: u32, room: &mut [u8]) -> usize
     first_line(&mut page, &found);
     if let Ok((contents, looked)) = &found {
         if let Outcome::Placed = looked.outcome {
-            event_lines(&mut page, sheet, contents, &numbers[..2 * contents.n]);
+            event_lines(&mut page, contents, &numbers[..2 * contents.n]);
         }
     }
     page.len

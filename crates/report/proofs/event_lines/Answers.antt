@@ -1,7 +1,7 @@
 -- Each turn puts the line of one event more.
 use Prim.Native.Nat.{◌+◌, ◌*◌}
 use native.Mathlib.Omega.{arith}
-use Rattle.sheet.specs.Steps.{names_at}
+use Rattle.sheet.specs.Steps.{names}
 use Rattle.sheet.proofs.ContentsLaws.{names-length}
 use Rattle.placing.specs.Placing.{at}
 use Rattle.report.proofs.EventLaws.{adds_no_line, adds-line, natural-is}
@@ -15,7 +15,7 @@ loop-i-preserved c =
     record {
       within = omega (arith, c.event_line.ensures.within);
       adds =
-          adds-line _ c.args.numbers.now c.loop-i.i _ _ _ c.name_at-name.ensures.bytes
+          adds-line _ c.args.numbers.now c.loop-i.i _ _ _ c.name.ensures.bytes
           (natural-is (at c.args.numbers.now (2 * c.loop-i.i)) (omega arith) _ c.natural-start.ensures)
           (natural-is (at c.args.numbers.now (2 * c.loop-i.i + 1)) (omega arith) _ c.natural-end.ensures)
           c.loop-i.invariant.adds c.event_line.ensures.adds;

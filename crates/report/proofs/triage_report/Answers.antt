@@ -9,5 +9,5 @@ use Rattle.report.proofs.triage_report.Goals as goal
 pub returns : goal.returns
 unfolding triage_text
 returns c =
-    let e = triage_first c.args.allowance c.args.sheet.now _ _ _ c.searched.ensures in
+    let e = triage_first c.args.allowance _ _ _ c.searched.ensures in
     adds_prints (rw e at c.first_line.ensures.adds) refl (search rules)
