@@ -9,7 +9,7 @@
 ghost use Rattle.std.specs.Prelude.{◌≤◌, IfOk, length};
 
 use cases::Answer;
-use sheet::SheetAnswer;
+use sheet::SheetRefusal;
 use std::io;
 use std::io::{Read, Write};
 
@@ -73,22 +73,24 @@ fn receive<R: Read>(
 }
 
 // The answer, and the line.
-fn told(answer: SheetAnswer) -> (Answer, usize) {
+fn told(answer: Result<usize, SheetRefusal>) -> (Answer, usize) {
     match answer {
-        SheetAnswer::Events(n) => {
+        Ok(n) => {
             let number = cases::low32(n);
             (Answer { kind: 0, number }, 0)
         }
-        SheetAnswer::Refused(why, line) => (Answer::refused(why), line),
+        Err(SheetRefusal { why, line }) => (Answer::refused(why), line),
     }
 }
 
-// Where the name of an event starts in the sheet, by the table of contents.
+// Where the name of an event starts: at the beginning of its line, which is that after i + 1 others.
 fn name_start(bytes: &[u8], i: usize) -> usize {
     let mut g = [0u16; CELLS];
-    let reading = sheet::read_into(bytes, &mut g);
-    match reading.answer {
-        SheetAnswer::Events(n) if i < n => reading.table.places[2 * i],
+    match sheet::read_into(bytes, &mut g) {
+        Ok(contents) if i < contents.n => bytes
+            .split(|b| *b == sheet::LF)
+            .take(i + 1)
+            .fold(0, |at: usize, line| at.saturating_add(line.len() + 1)),
         _ => 0,
     }
 }
