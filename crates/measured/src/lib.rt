@@ -23,14 +23,14 @@ fn coded(kind: u8, value: u64) -> u64
 }
 
 // An answer that is no refusal, as one number.
-trait Coded {
+trait AsNumber {
     ghost as_number: { Self → ℕ };
 
     fn number(self) -> u64
         ensures { result ≡ as_number self };
 }
 
-impl Coded for u16 {
+impl AsNumber for u16 {
     ghost as_number = { coded 0 };
 
     fn number(self) -> u64 {
@@ -38,7 +38,7 @@ impl Coded for u16 {
     }
 }
 
-impl Coded for takes::End {
+impl AsNumber for takes::End {
     ghost as_number = { quick_end_number };
 
     fn number(self) -> u64 {
@@ -50,7 +50,7 @@ impl Coded for takes::End {
     }
 }
 
-impl Coded for plain::End {
+impl AsNumber for plain::End {
     ghost as_number = { plain_end_number };
 
     fn number(self) -> u64 {
@@ -61,7 +61,7 @@ impl Coded for plain::End {
     }
 }
 
-impl Coded for Looked {
+impl AsNumber for Looked {
     ghost as_number = { looked_number };
 
     fn number(self) -> u64 {
@@ -75,7 +75,7 @@ impl Coded for Looked {
 }
 
 // An answer or a refusal, as one number.
-fn answer_number<A: Coded>(answer: Result<A, Refusal>) -> u64
+fn answer_number<A: AsNumber>(answer: Result<A, Refusal>) -> u64
     ensures { result ≡ answer_number A.as_number answer }
 {
     match answer {
