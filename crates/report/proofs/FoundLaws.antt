@@ -44,7 +44,6 @@ pub came : (allowance : ℕ) (s : Bor (List ℕ)) (g : List ℕ) (c : Contents) 
 came allowance s g c l room front rest read m k looks =
     let grid = into_accepted s g c read in
     record {
-      few = c.few;
       short = names-short s.now _ _ _ read.says;
       statements = read.statements;
       says = read.says;

@@ -7,7 +7,7 @@ use Rattle.refusal.specs.Numbers.{number_of}
 use Rattle.statements.specs.Statements.{Statement}
 use Rattle.statements.specs.Grid.{grid_of}
 use Rattle.sheet.specs.Sheet as Sheet
-use Rattle.sheet.specs.Sheet.{refused, accepted, most_events}
+use Rattle.sheet.specs.Sheet.{refused, accepted}
 use Rattle.sheet.specs.Steps.{Short, names, counts}
 use Rattle.sheet.specs.declared.SheetRefusal.{SheetRefusal}
 use Rattle.sheet.specs.declared.contents.Contents.{Contents}
@@ -56,20 +56,19 @@ most_first = longest_word + most_after
 abbrev pub said_line : List ℕ → ℕ → List ℕ
 said_line word tries = line (word ∷ decimal tries ∷ [])
 
--- what a search came to, with its tries
+-- the word of what a search came to
 abbrev pub word_of : Outcome → List ℕ
 word_of Placed = bytes "placed"
 word_of None = bytes "none"
 word_of GaveUp = bytes "gave-up"
 
--- the line of a refusal, or of what the search came to
+-- the first line of what a sheet came to
 abbrev pub first_said : Result (Contents × Looked) SheetRefusal → List ℕ
 first_said (Ok p) = said_line (word_of p.1.outcome) p.1.tries
 first_said (Err r) = refused_line (number_of r.why) r.line
 
 -- An accepted sheet o: its contents, what the search of its grid came to, and in front of the numbers the placing, where it is one.
 pub record Came (allowance : ℕ) (o : Sheet.Outcome) (numbers : List ℤ) (c : Contents) (l : Looked) : Type 0 where
-  pub few : c.n ≤ most_events
   pub short : Short (names c)
   pub statements : List Statement
   pub says : o ≡ accepted (names c) (counts c) statements

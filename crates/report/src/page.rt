@@ -18,6 +18,7 @@ pub struct Page<'a> {
 }
 
 impl<'a> Page<'a> {
+    // One byte more, which is left out where the room ends before it.
     pub fn byte(&mut self, b: u8)
         requires { self.old.len < most_end }
         ensures { Adds self.old self.new (b ∷ []) }
@@ -37,7 +38,7 @@ impl<'a> Page<'a> {
         }
     }
 
-    // By recursion: the text of `write!` is promised only where it reports success, which it does not promise.
+    // By recursion: `write!` promises its text only where it reports success, and never promises that.
     fn digits(&mut self, k: u64)
         requires { self.old.len + length (decimal k) ≤ most_end }
         ensures { Adds self.old self.new (decimal k) }
