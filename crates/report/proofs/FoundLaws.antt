@@ -9,7 +9,7 @@ use lib.ListN.{length, take}
 use lib.Seq.{take-append_seam}
 use Rattle.refusal.specs.Answered.{answers}
 use Rattle.sheet.specs.Sheet.{Outcome, sheet}
-use Rattle.sheet.specs.Steps.{SheetRead, names, counts}
+use Rattle.sheet.specs.Steps.{SheetRead, names}
 use Rattle.sheet.specs.declared.SheetRefusal.{SheetRefusal}
 use Rattle.sheet.specs.declared.contents.Contents.{Contents}
 use Rattle.sheet.proofs.ContentsLaws.{names-length}

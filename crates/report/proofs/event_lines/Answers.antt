@@ -1,8 +1,6 @@
 -- Each turn puts the line of one event more.
 use Prim.Native.Nat.{◌+◌, ◌*◌}
 use native.Mathlib.Omega.{arith}
-use Rattle.sheet.specs.Steps.{names}
-use Rattle.sheet.proofs.ContentsLaws.{names-length}
 use Rattle.placing.specs.Placing.{at}
 use Rattle.report.proofs.EventLaws.{adds_no_line, adds-line, natural-is}
 use Rattle.report.proofs.event_lines.Goals as goal

@@ -1,13 +1,13 @@
 -- The digits before the last are those of a smaller number.
 use mathlib.Core.Path.{◌≡◌, ◌∙◌, ap}
-use mathlib.Core.List.{[], ◌∷◌, ◌++◌}
+use mathlib.Core.List.{[], ◌∷◌}
 use Prim.Native.Nat.{ℕ, ◌+◌, ◌/◌, ◌%◌, ◌≤◌, ◌<◌}
 use native.Mathlib.Omega.{arith}
 use lib.ListN.{length, length-append}
 use Rattle.report.specs.Text.{decimal}
 use Rattle.report.specs.Steps.{Adds}
 use Rattle.report.specs.declared.page.Page.{Page}
-use Rattle.report.proofs.AddsLaws.{adds_none, adds_then}
+use Rattle.report.proofs.AddsLaws.{adds_then}
 use Rattle.report.proofs.DecimalLaws.{decimal-one, decimal-more}
 use Rattle.report.proofs.page.Page.+digits.Goals as goal
 use Rattle.report.proofs.page.Page.+digits.Goals.{then-k-ge10, else-k-ge10}
