@@ -78,7 +78,7 @@ pub fn place_report(sheet: &[u8], allowance: u32, room: &mut [u8]) -> usize
     let mut page = Page { room, len: 0 };
     first_line(&mut page, &found);
     if let Ok((contents, looked)) = &found {
-        // A test of its own: of a chain of `let`s no fact is known where it fails.
+        // Nested: where a chain of `let`s fails, no fact is known of it.
         if let Outcome::Placed = looked.outcome {
             event_lines(&mut page, contents, &numbers[..2 * contents.n]);
         }

@@ -33,8 +33,8 @@ impl<'a> Page<'a> {
         requires { self.old.len + length text.now ≤ most_end }
         ensures { Adds self.old self.new text.now }
     {
-        for b in text {
-            self.byte(*b);
+        for &b in text {
+            self.byte(b);
         }
     }
 
