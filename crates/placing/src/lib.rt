@@ -20,12 +20,20 @@ const ENDS: usize = 2 * EVENTS;
 // The relations under which an end of X is before an end of Y: start or end of X, start or end of Y.
 static EARLIER: [[u16; 2]; 2] = [[2581, 8181], [1, 341]];
 
+// A grid, and the numbers of a placing: start then end, event by event.
+#[derive(Clone, Copy)]
+struct Placed<'a> {
+    grid: Grid<'a>,
+    numbers: &'a [i32],
+    ghost long: { 2 * grid.n ≤ length numbers.now },
+}
+
 // Whether a placing meets every cell of a grid.
 pub fn check_placing(g: &[u16], n: usize, placing: &[i32]) -> Result<bool, Refusal>
     ensures { CheckSays n g.now placing.now result }
 {
-    let grid = judged(g, n, placing)?;
-    Ok(!some_missed(grid, placing))
+    let placed = judged(g, n, placing)?;
+    Ok(!placed.some_missed())
 }
 
 // A grid of n events with a placing, or room for one, of so many numbers; else refusal 1, 2 or 6.
@@ -43,39 +51,14 @@ pub fn sized<'a>(g: &'a [u16], n: usize, numbers: usize) -> Result<Grid<'a>, Ref
 
 // A grid of n events and a placing that can be checked; else refusal 1, 2, 6, 3, 4, 5 or 7, in this order.
 #[tactic(auto, unfolding(crate::specs::Checking::check_refusal))]
-fn judged<'a>(g: &'a [u16], n: usize, placing: &[i32]) -> Result<Grid<'a>, Refusal>
-    ensures refusal { refusal_of result ≡ check_refusal n g.entry.now placing.now }
-    ensures same { IfOk result (λ x. (x.n ≡ n) × (x.cells ≡ g.entry)) }
+fn judged<'a>(g: &'a [u16], n: usize, numbers: &'a [i32]) -> Result<Placed<'a>, Refusal>
+    ensures refusal { refusal_of result ≡ check_refusal n g.entry.now numbers.entry.now }
+    ensures same { IfOk result (λ x. (x.grid.n ≡ n) × (x.grid.cells ≡ g.entry) × (x.numbers ≡ numbers.entry)) }
 {
-    let grid = sized(g, n, placing.len())?;
-    judge_rest(grid, placing)?;
-    Ok(grid)
-}
-
-// Refusals 3, 4, 5 and 7 of a grid and a placing of its length.
-#[tactic(auto, unfolding(crate::specs::Checking::rest_refusal))]
-fn judge_rest(grid: Grid, placing: &[i32]) -> Result<(), Refusal>
-    requires { 2 * grid.n ≤ length placing.now }
-    ensures { refusal_of result ≡ rest_refusal grid.entry.n grid.entry.cells.now placing.now }
-{
-    grid.judge_cells()?;
-    if some_late(grid.n, placing) {
-        return Err(Refusal::StartNotBeforeEnd);
-    }
-    Ok(())
-}
-
-// Some start is not before its end.
-fn some_late(n: usize, placing: &[i32]) -> bool
-    requires { (n ≤ 32) × (2 * n ≤ length placing.now) }
-    ensures { result ≡ some_late n (at placing.now) }
-{
-    for i in 0..n {
-        if placing[2 * i] >= placing[2 * i + 1] {
-            return true;
-        }
-    }
-    false
+    let grid = sized(g, n, numbers.len())?;
+    let placed = Placed { grid, numbers };
+    placed.judge_rest()?;
+    Ok(placed)
 }
 
 // The relation of an event from a to b to one from c to d.
@@ -108,43 +91,74 @@ fn sharing(starts: Ordering, ends: Ordering) -> usize
     }
 }
 
-// The relation of event i to event j.
-fn relation_at(placing: &[i32], i: usize, j: usize) -> usize
-    requires { (i < 32) × (j < 32) × (2 * i + 1 < length placing.now) × (2 * j + 1 < length placing.now) }
-    ensures { result ≡ relation_at (at placing.now) i j }
-{
-    relation_of(
-        placing[2 * i],
-        placing[2 * i + 1],
-        placing[2 * j],
-        placing[2 * j + 1],
-    )
-}
-
-// Some cell of row i has not the relation of its events.
-fn row_missed(grid: Grid, placing: &[i32], i: usize) -> bool
-    requires { (i < grid.n) × (2 * grid.n ≤ length placing.now) }
-    ensures { result ≡ row_missed grid.entry.n grid.entry.cells.now (at placing.now) i }
-{
-    for j in 0..grid.n {
-        if !relation::has(grid.get(i, j), relation_at(placing, i, j)) {
-            return true;
-        }
+impl<'a> Placed<'a> {
+    // The start and the end of event i.
+    fn ends(self, i: usize) -> (i32, i32)
+        requires { i < self.grid.n }
+        ensures { (result.0 ≡ at self.entry.numbers.now (2 * i)) × (result.1 ≡ at self.entry.numbers.now (2 * i + 1)) }
+    {
+        (self.numbers[2 * i], self.numbers[2 * i + 1])
     }
-    false
-}
 
-// Some cell has not the relation of its events.
-fn some_missed(grid: Grid, placing: &[i32]) -> bool
-    requires { 2 * grid.n ≤ length placing.now }
-    ensures { result ≡ some_missed grid.entry.n grid.entry.cells.now (at placing.now) }
-{
-    for i in 0..grid.n {
-        if row_missed(grid, placing, i) {
-            return true;
+    // Refusals 3, 4, 5 and 7.
+    #[tactic(auto, unfolding(crate::specs::Checking::rest_refusal))]
+    fn judge_rest(self) -> Result<(), Refusal>
+        ensures { refusal_of result ≡ rest_refusal self.entry.grid.n self.entry.grid.cells.now self.entry.numbers.now }
+    {
+        self.grid.judge_cells()?;
+        if self.some_late() {
+            return Err(Refusal::StartNotBeforeEnd);
         }
+        Ok(())
     }
-    false
+
+    // Some start is not before its end.
+    fn some_late(self) -> bool
+        ensures { result ≡ some_late self.entry.grid.n (at self.entry.numbers.now) }
+    {
+        for i in 0..self.grid.n {
+            let (start, end) = self.ends(i);
+            if start >= end {
+                return true;
+            }
+        }
+        false
+    }
+
+    // The relation of event i to event j.
+    fn relation_at(self, i: usize, j: usize) -> usize
+        requires { (i < self.grid.n) × (j < self.grid.n) }
+        ensures { result ≡ relation_at (at self.entry.numbers.now) i j }
+    {
+        let (a, b) = self.ends(i);
+        let (c, d) = self.ends(j);
+        relation_of(a, b, c, d)
+    }
+
+    // Some cell of row i has not the relation of its events.
+    fn row_missed(self, i: usize) -> bool
+        requires { i < self.grid.n }
+        ensures { result ≡ row_missed self.entry.grid.n self.entry.grid.cells.now (at self.entry.numbers.now) i }
+    {
+        for j in 0..self.grid.n {
+            if !relation::has(self.grid.get(i, j), self.relation_at(i, j)) {
+                return true;
+            }
+        }
+        false
+    }
+
+    // Some cell has not the relation of its events.
+    fn some_missed(self) -> bool
+        ensures { result ≡ some_missed self.entry.grid.n self.entry.grid.cells.now (at self.entry.numbers.now) }
+    {
+        for i in 0..self.grid.n {
+            if self.row_missed(i) {
+                return true;
+            }
+        }
+        false
+    }
 }
 
 // One of the four sets, by start (0) or end (1) of X and of Y.
@@ -220,7 +234,11 @@ pub fn settle(grid: Grid, room: &mut [i32]) -> bool
     ensures { Settled grid.entry.n grid.entry.cells.now room.old room.new result }
 {
     let numbers = number_ends(grid);
-    if some_late(grid.n, &numbers) || some_missed(grid, &numbers) {
+    let placed = Placed {
+        grid,
+        numbers: &numbers,
+    };
+    if placed.some_late() || placed.some_missed() {
         return false;
     }
     room.copy_from_slice(&numbers[..2 * grid.n]);

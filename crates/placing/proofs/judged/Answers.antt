@@ -4,7 +4,7 @@ use Rattle.placing.proofs.CheckLaws.{lengths}
 use native.Mathlib.Omega.{arith}
 use Rattle.placing.proofs.judged.Goals as goal
 
-pub judge_rest-requires : goal.judge_rest-requires
-judge_rest-requires c =
+pub invariant_of-placed : goal.invariant_of-placed
+invariant_of-placed c =
     let s = lengths _ _ _ (none_refused _ _ c.sized.ensures.refusal c.in_ok-grid.was) in
-    omega (arith, c.in_ok-grid.ensures.same.0)
+    record { long = omega (arith, c.in_ok-grid.ensures.same.0) }
