@@ -91,46 +91,31 @@ fn pass_decided(grid: Grid, from: Stand, allowance: u32) -> Stand
 }
 
 // One try: cuts cell (i, j) and its mirror to relation r on a copy of the grid, at the front of a room for a grid, and closes it there.
-fn attempt(
-    list: &mut WaitingList,
-    g: &[u16],
-    cut: &mut [u16],
-    n: usize,
-    i: usize,
-    j: usize,
-    r: usize,
-) -> End
-    requires { (list.old ≡ []) × Triable n i j r g.now × Held n cut.old }
-    ensures tried { tried_by (ended result (take (n * n) cut.new)) ≡ try_at n (i, j) r g.now }
+fn attempt(list: &mut WaitingList, grid: Grid, cut: &mut [u16], i: usize, j: usize, r: usize) -> End
+    requires { (list.old ≡ []) × Triable grid.n i j r grid.cells.now × Held grid.n cut.old }
+    ensures tried { tried_by (ended result (take (grid.entry.n * grid.entry.n) cut.new)) ≡ try_at grid.entry.n (i, j) r grid.entry.cells.now }
     ensures idle { list.new ≡ [] }
 {
-    let cells = n * n;
-    grid::copy(cut, g, cells);
-    quick::close_pair(list, &mut cut[..cells], n, i, j, relation::mark(r))
+    let cells = grid.n * grid.n;
+    grid::copy(cut, grid.cells, cells);
+    quick::close_pair(list, &mut cut[..cells], grid.n, i, j, relation::mark(r))
 }
 
 // Decides the cells of a closed grid from a stand on. Past the last, the placing is written to the room.
-fn look(
-    list: &mut WaitingList,
-    n: usize,
-    from: Stand,
-    g: &[u16],
-    allowance: u32,
-    room: &mut [i32],
-) -> Looked
-    requires { (list.old ≡ []) × Stands n allowance from × ClosedGrid n g.now × (length room.old ≡ 2 * n) }
-    ensures shows { Shows n allowance (goes_on n allowance g.now from) room.old result room.new }
+fn look(list: &mut WaitingList, grid: Grid, from: Stand, allowance: u32, room: &mut [i32]) -> Looked
+    requires { (list.old ≡ []) × Stands grid.n allowance from × ClosedGrid grid.n grid.cells.now × (length room.old ≡ 2 * grid.n) }
+    ensures shows { Shows grid.entry.n allowance (goes_on grid.entry.n allowance grid.entry.cells.now from) room.old result room.new }
     ensures idle { list.new ≡ [] }
 {
-    let at = pass_decided(Grid { cells: g, n }, from, allowance);
+    let at = pass_decided(grid, from, allowance);
     if at.left == 0 {
-        return settled(Grid { cells: g, n }, at.tries, room);
+        return settled(grid, at.tries, room);
     }
-    let cells = n * n;
+    let n = grid.n;
     let mut work = [0u16; 1024];
     let mut tries = at.tries;
     for r in 0..13 {
-        if !relation::has(grid::get(g, n, at.i, at.j), r) {
+        if !relation::has(grid.get(at.i, at.j), r) {
             continue;
         }
         if tries == allowance {
@@ -140,10 +125,14 @@ fn look(
             };
         }
         tries += 1;
-        let End::Closed(_) = attempt(list, g, &mut work, n, at.i, at.j, r) else {
+        let End::Closed(_) = attempt(list, grid, &mut work, at.i, at.j, r) else {
             continue;
         };
-        let below = look(list, n, at.next(n, tries), &work[..cells], allowance, room);
+        let cut = Grid {
+            cells: &work[..n * n],
+            n,
+        };
+        let below = look(list, cut, at.next(n, tries), allowance, room);
         let Outcome::None = below.outcome else {
             return below;
         };
@@ -204,7 +193,11 @@ pub fn search_accepted(g: &[u16], n: usize, allowance: u32, room: &mut [i32]) ->
         left: (cells - n) / 2,
         tries,
     };
-    look(&mut list, n, first, &work[..cells], allowance, room)
+    let closed = Grid {
+        cells: &work[..cells],
+        n,
+    };
+    look(&mut list, closed, first, allowance, room)
 }
 
 // Refusals 1, 2, 6, 3, 4 and 5 of a grid and a room of so many numbers.

@@ -15,14 +15,14 @@ use Rattle.search.proofs.attempt.Goals as goal
 
 pub close_pair-requires : goal.close_pair-requires
 close_pair-requires c =
-    let m = c.args.n * c.args.n in
-    let same : take m c.copy.new.to ≡ c.args.g.now = ap (take m) c.copy.ensures ∙ copied_front c.args.g.now c.args.cut.now m c.requires.1.grid.accepted.long in
-    (c.requires.0, subst (Cuttable c.args.n c.args.i c.args.j c.mark.result) (sym same) (triable_cut _ _ _ _ _ _ c.mark.ensures c.requires.1))
+    let m = c.args.grid.n * c.args.grid.n in
+    let same : take m c.copy.new.to ≡ c.args.grid.cells.now = ap (take m) c.copy.ensures ∙ copied_front c.args.grid.cells.now c.args.cut.now m c.requires.1.grid.accepted.long in
+    (c.requires.0, subst (Cuttable c.args.grid.n c.args.i c.args.j c.mark.result) (sym same) (triable_cut _ _ _ _ _ _ c.mark.ensures c.requires.1))
 
 pub returns-clause-tried : goal.returns-clause-tried
 returns-clause-tried c =
-    let m = c.args.n * c.args.n in
+    let m = c.args.grid.n * c.args.grid.n in
     let fits : m ≤ length c.copy.new.to = omega (arith, c.copy.auto.to, c.requires.2.fits) in
-    let same : take m c.copy.new.to ≡ c.args.g.now = ap (take m) c.copy.ensures ∙ copied_front c.args.g.now c.args.cut.now m c.requires.1.grid.accepted.long in
+    let same : take m c.copy.new.to ≡ c.args.grid.cells.now = ap (take m) c.copy.ensures ∙ copied_front c.args.grid.cells.now c.args.cut.now m c.requires.1.grid.accepted.long in
     ap (λ (l : List ℕ). tried_by (ended c.close_pair.result l)) (take_at _ _ _ (c.close_pair.auto.g ∙ length-take-le m c.copy.new.to fits))
-    ∙ c.close_pair.ensures.closed ∙ try_made _ _ _ c.args.r _ _ c.mark.ensures ∙ ap (try_at c.args.n (c.args.i, c.args.j) c.args.r) same
+    ∙ c.close_pair.ensures.closed ∙ try_made _ _ _ c.args.r _ _ c.mark.ensures ∙ ap (try_at c.args.grid.n (c.args.i, c.args.j) c.args.r) same
