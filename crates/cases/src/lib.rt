@@ -15,7 +15,7 @@ use std::io::{Read, Write};
 // At most so many cases are answered.
 const MOST: usize = 100000;
 
-// What kind of answer came, and its number.
+// What kind of answer came, and its number. A kind is a number, as in the stored cases.
 #[derive(Clone, Copy)]
 pub struct Answer {
     pub kind: u8,

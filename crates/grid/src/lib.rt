@@ -30,7 +30,8 @@ pub struct Grid<'a> {
     ghost fits: { n * n ≤ length cells.now },
 }
 
-// Cell (i, j).
+// Cell (i, j). This and the two below take the cells and n apart, for grids that are written: with a `&mut` inside a struct, each
+// contract would have to say when the loan ends.
 pub fn get(g: &[u16], n: usize, i: usize, j: usize) -> u16
     requires { (n ≤ 32) × (i < n) × (j < n) × (n * n ≤ length g.now) }
     ensures { result ≡ cell n g.now i j }

@@ -92,7 +92,7 @@ fn sharing(starts: Ordering, ends: Ordering) -> usize
 }
 
 impl<'a> Placed<'a> {
-    // The start and the end of event i.
+    // The start and the end of event i. They stand side by side in one list of numbers, as the public functions and C hand it in.
     fn ends(self, i: usize) -> (i32, i32)
         requires { i < self.grid.n }
         ensures { (result.0 ≡ at self.entry.numbers.now (2 * i)) × (result.1 ≡ at self.entry.numbers.now (2 * i + 1)) }

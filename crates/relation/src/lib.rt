@@ -55,7 +55,8 @@ fn exchanged(r: usize) -> usize
     EXCHANGED[r] as usize
 }
 
-// Relation r is a member of a set.
+// Relation r is a member of a set. A relation is a number below 13, an index and a shift wherever it is used: a type round it would be
+// opened at each use, so that it is below 13 stays a clause.
 pub fn has(a: u16, r: usize) -> bool
     requires { r < 13 }
     ensures { result ≡ member r a }

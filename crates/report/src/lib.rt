@@ -57,7 +57,7 @@ fn first_line(page: &mut Page, found: &Result<(Contents, Looked), SheetRefusal>)
     }
 }
 
-// One line an event, in contents order; the numbers are the starts and ends.
+// One line an event, in contents order. The numbers are the starts and ends, side by side, as the search writes them.
 fn event_lines(page: &mut Page, contents: &Contents, numbers: &[i32])
     requires { Short (names contents.now) × (length numbers.now ≡ 2 * contents.now.n) × (page.old.len + most_event * contents.now.n ≤ most_end) }
     ensures { Adds page.old page.new (event_lines (names contents.now) numbers.now contents.now.n) }
