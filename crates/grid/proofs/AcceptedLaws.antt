@@ -39,18 +39,6 @@ size-fine n g h e = simp (le-ltb 32 n h, eq-eqb (length g) (n * n) e)
 -- ---- refusals 3, 4 and 5
 
 module _ (n : ℕ) (g : List ℕ) where
-  pub cells_large : some_large g ≡ true → cell_refusal n g ≡ 3
-  unfolding cell_refusal
-  cells_large a = simp a
-
-  pub cells_not_eq : some_large g ≡ false → some_not_eq n g ≡ true → cell_refusal n g ≡ 4
-  unfolding cell_refusal
-  cells_not_eq a b = simp (a, b)
-
-  pub cells-unlike : some_large g ≡ false → some_not_eq n g ≡ false → some_unlike n g ≡ true → cell_refusal n g ≡ 5
-  unfolding cell_refusal
-  cells-unlike a b d = simp (a, b, d)
-
   pub cells-fine : some_large g ≡ false → some_not_eq n g ≡ false → some_unlike n g ≡ false → cell_refusal n g ≡ 0
   unfolding cell_refusal
   cells-fine a b d = simp (a, b, d)

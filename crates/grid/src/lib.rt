@@ -32,6 +32,7 @@ pub struct Grid<'a> {
 
 // Cell (i, j). This and the two below take the cells and n apart, for grids that are written: with a `&mut` inside a struct, each
 // contract would have to say when the loan ends.
+#[tactic(auto, unfolding(crate::specs::Cells::cell))]
 pub fn get(g: &[u16], n: usize, i: usize, j: usize) -> u16
     requires { (n ≤ 32) × (i < n) × (j < n) × (n * n ≤ length g.now) }
     ensures { result ≡ cell n g.now i j }
@@ -40,6 +41,7 @@ pub fn get(g: &[u16], n: usize, i: usize, j: usize) -> u16
 }
 
 // Cell (i, j) becomes a.
+#[tactic(auto, unfolding(crate::specs::Cells::put))]
 fn put(g: &mut [u16], n: usize, i: usize, j: usize, a: u16)
     requires { (n ≤ 32) × (i < n) × (j < n) × (n * n ≤ length g.old) }
     ensures { g.new ≡ put n g.old i j a }
@@ -85,6 +87,7 @@ pub fn copy(to: &mut [u16], from: &[u16], m: usize)
 
 impl<'a> Grid<'a> {
     // A grid of n events, in just so many cells; else refusal 1 or 2.
+    #[tactic(auto, unfolding(crate::specs::Accepted::size_refusal))]
     pub fn sized(cells: &'a [u16], n: usize) -> Result<Grid<'a>, Refusal>
         ensures refusal { refusal_of result ≡ size_refusal n cells.entry.now }
         ensures same { IfOk result (λ g. (g.n ≡ n) × (g.cells ≡ cells.entry)) }
@@ -107,6 +110,7 @@ impl<'a> Grid<'a> {
     }
 
     // Refusals 3, 4 and 5.
+    #[tactic(auto, unfolding(crate::specs::Accepted::cell_refusal))]
     pub fn judge_cells(self) -> Result<(), Refusal>
         ensures { refusal_of result ≡ cell_refusal self.entry.n self.entry.cells.now }
     {

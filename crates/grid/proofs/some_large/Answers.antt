@@ -15,8 +15,3 @@ loop-cell-init c = refl
 
 pub loop-cell-preserved : goal.loop-cell-preserved
 loop-cell-preserved c = ap (λ (x : Bool). x || large c.args.g.now c.loop-cell.cell-index) c.loop-cell.invariant ∙ some_next c.loop-cell.cell-index (large c.args.g.now)
-
-pub returns : goal.returns
-returns c =
-    let e : c.loop-cell.cell-index ≡ length c.args.g.now = omega arith in
-    c.loop-cell.invariant ∙ ap (λ (m : ℕ). some m (large c.args.g.now)) e

@@ -4,6 +4,3 @@ use Rattle.grid.proofs.Grid.is_unlike.Goals as goal
 
 pub returns-then-set-eq-ALL : goal.returns-then-set-eq-ALL
 returns-then-set-eq-ALL c = unlike-all _ _ _ _ _ _ c.get-set.ensures c.get-mirror.ensures c.if-set-eq-ALL.true
-
-pub returns : goal.returns
-returns c = unlike-is _ _ _ _ _ _ _ c.get-set.ensures c.get-mirror.ensures c.converse_of.ensures

@@ -6,14 +6,8 @@ use native.Mathlib.Omega.{arith}
 use borrow.Author.Rules.{rules}
 use Rattle.grid.proofs.Grid.row_unlike.Goals as goal
 
-pub loop-j-init : goal.loop-j-init
-loop-j-init c = above_begins _ _ _
-
 pub returns-then-is_unlike : goal.returns-then-is_unlike
 returns-then-is_unlike c = sym (some_yes _ (above _ _ _) c.loop-j.j c.loop-j-test.true (above_found _ _ _ c.loop-j.j (omega arith) (sym c.is_unlike.ensures ∙ c.if-is_unlike.true)))
-
-pub loop-j-preserved : goal.loop-j-preserved
-loop-j-preserved c = above_more _ _ _ c.loop-j.j (omega arith) c.loop-j.invariant (sym c.is_unlike.ensures ∙ c.if-is_unlike.false)
 
 pub returns : goal.returns
 returns c =

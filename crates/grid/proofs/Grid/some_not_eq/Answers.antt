@@ -8,14 +8,8 @@ use borrow.Author.Rules.{rules}
 use native.Mathlib.Omega.{arith}
 use Rattle.grid.proofs.Grid.some_not_eq.Goals as goal
 
-pub loop-i-init : goal.loop-i-init
-loop-i-init c = λ i h. absurd (omega arith)
-
 pub returns-then-get-ne-EQ : goal.returns-then-get-ne-EQ
 returns-then-get-ne-EQ c = sym (some_yes c.args.self.n (not_eq c.args.self.n c.args.self.cells.now) c.loop-i.i (search rules) (ap not (ne_eqb _ _ (λ e. c.if-get-ne-EQ.true (c.get.ensures ∙ e)))))
-
-pub loop-i-preserved : goal.loop-i-preserved
-loop-i-preserved c = none_more (not_eq c.args.self.n c.args.self.cells.now) c.loop-i.i c.loop-i.invariant (ap not (eq-eqb _ _ (sym c.get.ensures ∙ c.if-get-ne-EQ.false)))
 
 pub returns : goal.returns
 returns c =

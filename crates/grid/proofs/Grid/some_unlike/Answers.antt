@@ -7,14 +7,8 @@ use borrow.Author.Rules.{rules}
 use native.Mathlib.Omega.{arith}
 use Rattle.grid.proofs.Grid.some_unlike.Goals as goal
 
-pub loop-i-init : goal.loop-i-init
-loop-i-init c = λ i h. absurd (omega arith)
-
 pub returns-then-row_unlike : goal.returns-then-row_unlike
 returns-then-row_unlike c = sym (sym (above_enough c.args.self.n c.args.self.cells.now c.args.self.fits c.requires.0 c.requires.1) ∙ some_yes c.args.self.n (above_unlike c.args.self.n c.args.self.cells.now) c.loop-i.i (search rules) (sym c.row_unlike.ensures ∙ c.if-row_unlike.true))
-
-pub loop-i-preserved : goal.loop-i-preserved
-loop-i-preserved c = none_more (above_unlike c.args.self.n c.args.self.cells.now) c.loop-i.i c.loop-i.invariant (sym c.row_unlike.ensures ∙ c.if-row_unlike.false)
 
 pub returns : goal.returns
 returns c =
