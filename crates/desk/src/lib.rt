@@ -19,6 +19,7 @@ pub fn read_sheet<R: Read>(reader: &mut R, room: &mut [u8]) -> io::Result<usize>
     ensures end { IfOk result (λ n. n < length room.new → IsAtEnd (R.remaining reader.new)) }
 {
     let mut done = 0;
+    // A while loop: a read brings as many bytes as it likes.
     while done < room.len() {
         let more = reader.read(&mut room[done..])?;
         if more == 0 {

@@ -30,7 +30,7 @@ pub struct Grid<'a> {
     ghost fits: { n * n ≤ length cells.now },
 }
 
-// Cell (i, j). This and the two below take the cells and n apart, for grids that are written: with a `&mut` inside a struct, each
+// Cell (i, j). This, `put` and `put_both` take the cells and n apart, for grids that are written: with a `&mut` inside a struct, each
 // contract would have to say when the loan ends.
 #[tactic(auto, unfolding(crate::specs::Cells::cell))]
 pub fn get(g: &[u16], n: usize, i: usize, j: usize) -> u16
@@ -101,7 +101,7 @@ impl<'a> Grid<'a> {
         Ok(Grid { cells, n })
     }
 
-    // Cell (i, j).
+    // Cell (i, j). That an event is below n stays a clause, here and in other rooms: n is a value, and no type knows it.
     pub fn get(self, i: usize, j: usize) -> u16
         requires { (i < self.n) × (j < self.n) }
         ensures { result ≡ cell self.entry.n self.entry.cells.now i j }
@@ -185,7 +185,7 @@ pub fn judge(g: &[u16], n: usize) -> Result<(), Refusal>
     Grid::sized(g, n)?.judge_cells()
 }
 
-// Some cell is above 8191. As above, the loop goes on to the end.
+// Some cell is above 8191. As in `some_empty`, the loop goes on to the end.
 fn some_large(g: &[u16]) -> bool
     ensures { result ≡ some_large g.now }
 {

@@ -3,13 +3,15 @@
 #![tactic(auto)]
 
 ghost use Rattle.std.specs.Prelude.{◌≤◌};
-ghost use Rattle.report.specs.Report.{most_printed};
+ghost use Rattle.report.specs.Report.{place_text, Prints, most_printed};
 
 use report::{ALLOWANCE, PRINTED};
 use std::io;
 
+// What is printed, which a room of the program has whole.
 fn printed(sheet: &[u8], room: &mut [u8]) -> usize
-    ensures { result ≤ most_printed }
+    ensures few { result ≤ most_printed }
+    ensures text { Prints (place_text 5000 sheet.now) room.old result room.new }
 {
     report::place_report(sheet, ALLOWANCE, room)
 }

@@ -20,11 +20,6 @@ use Rattle.std.proofs.Common.{Result, Ok, Err}
 -- ---- refusals 1, 2 and 6
 
 module _ (n : ℕ) (g : List ℕ) (m : ℕ) where
-  -- what the size refuses comes before the number of numbers
-  pub length-size : (k : ℕ) → size_refusal n g ≡ k → 0 < k → length_refusal n g m ≡ k
-  unfolding length_refusal
-  length-size k e h = first_here (size_refusal n g) (cond (eqb m (2 * n)) 0 6) (omega arith) ∙ e
-
   pub length-right : size_refusal n g ≡ 0 → m ≡ 2 * n → length_refusal n g m ≡ 0
   unfolding length_refusal
   length-right s e = first_next (size_refusal n g) (cond (eqb m (2 * n)) 0 6) s ∙ ap (λ (x : Bool). cond {A = ℕ} x 0 6) (eq-eqb m (2 * n) e)

@@ -202,7 +202,7 @@ fn count_ends(grid: Grid) -> [usize; ENDS]
     counts
 }
 
-// How many different counts are below each number up to as many as there are counts.
+// How many different counts are below each number up to as many as there are counts. By index: each number needs the one before it.
 fn values_below(counts: &[usize]) -> [usize; ENDS + 1]
     requires { length counts.now ≤ most_ends }
     ensures { Belows (length counts.now) counts.now result }

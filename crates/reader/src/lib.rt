@@ -1,5 +1,5 @@
 // A reader over a sheet: it holds the lent bytes and its place in them, and hands on line after line.
-// Each of the methods is thin: the work is done by line_at, and line_from has plain parameters again.
+// Each of the methods is thin: the work is done by line_at, and line_from has plain parameters.
 #![tactic(auto)]
 
 ghost use Rattle.std.specs.Prelude.{◌≡◌};
@@ -46,7 +46,10 @@ impl<'a> Reader<'a> {
     pub fn moved(self, at: usize) -> Reader<'a>
         ensures { (result.sheet ≡ self.entry.sheet) × (result.at ≡ at) }
     {
-        Reader { at, ..self }
+        Reader {
+            sheet: self.sheet,
+            at,
+        }
     }
 
     // The line that begins at the reader's place.
@@ -70,6 +73,7 @@ pub fn count_lines(sheet: &[u8]) -> usize
 {
     let mut reader = Reader::begun(sheet);
     let mut count = 0;
+    // A while loop: the end of a line says where the next begins.
     while let NextLine::Ends(e) = reader.line() {
         reader = reader.moved(e + 1);
         count += 1;

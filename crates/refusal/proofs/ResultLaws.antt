@@ -20,12 +20,6 @@ said_unique (Err q) (Ok b) e = absurd (cc)
 pub none_refused : {A : Type 0} {x : A} (a : ℕ) (j : Result A Refusal) → refusal_of j ≡ a → j ≡ Ok x → a ≡ 0
 none_refused a j e f = sym e ∙ ap refusal_of f
 
--- a refusal that came is the first that is due
-pub first_refused : {A : Type 0} (a b : ℕ) (j : Result A Refusal) (r : Refusal) → refusal_of j ≡ a → j ≡ Err r → number_of r ≡ first_of a b
-first_refused a b j r e f =
-    let q : number_of r ≡ a = sym (ap refusal_of f) ∙ e in
-    q ∙ sym (first_here a b (subst (λ (k : ℕ). 0 < k) q (number_pos r)))
-
 -- where nothing is handed back but a refusal, its number says all
 pub refusal_unique : (a b : Result (Unit {0}) Refusal) → refusal_of a ≡ refusal_of b → a ≡ b
 refusal_unique (Ok u) (Ok v) e = refl

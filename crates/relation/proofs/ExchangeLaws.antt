@@ -102,10 +102,3 @@ converse_and a b =
 pub converse_or : (a b : ℕ) → converse (bit_or a b) ≡ bit_or (converse a) (converse b)
 unfolding converse
 converse_or a b = union_or (λ r. 2 ^ exchanged r) a b
-
-pub converse-inside : (a b : ℕ) → Inside a b → Inside (converse a) (converse b)
-converse-inside a b i =
-    record {
-      each = λ t h w.
-          subst T (sym (member-converse b t h)) (i.each (exchanged t) (exchanged_lt t h) (subst T (member-converse a t h) w));
-    }

@@ -36,11 +36,11 @@ pub struct Looked {
 
 // Where the search stands: at cell (i, j) or past the last, with so many cells left and so many tries made.
 #[derive(Clone, Copy)]
-pub struct Stand {
-    pub i: usize,
-    pub j: usize,
-    pub left: usize,
-    pub tries: u32,
+struct Stand {
+    i: usize,
+    j: usize,
+    left: usize,
+    tries: u32,
 }
 
 // The cell after (i, j), in row order.
@@ -77,6 +77,7 @@ fn pass_decided(grid: Grid, from: Stand, allowance: u32) -> Stand
     ensures { Passes grid.entry.n allowance grid.entry.cells.now from result }
 {
     let mut at = from;
+    // A while loop: how many cells are passed is what it finds out.
     while 0 < at.left {
         if at.tries == allowance {
             return at;

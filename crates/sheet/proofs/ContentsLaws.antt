@@ -128,10 +128,6 @@ module _ (c : Contents) where
   pub counts-length : length (counts c) ≡ c.n
   counts-length = rw length-map entries-length
 
-  -- event i
-  pub entry-at : (i : ℕ) (e : Entry) → i < c.n → e ≡ get_or c.entries i e → slice_get (entries_of c) i ≡ Some e
-  entry-at i e h q = slice_get_read (entries_of c) c.n i e (sym entries-length) h (q ∙ sym (get_or-take c.n c.entries i e h))
-
   pub count-at : (i : ℕ) (e : Entry) → i < c.n → get_or (counts c) i 0 ≡ (get_or c.entries i e).statements
   count-at i e h = get_or-map count_in_entry (entries_of c) i e 0 (omega (arith, entries-length)) ∙ ap count_in_entry (get_or-take c.n c.entries i e h)
 

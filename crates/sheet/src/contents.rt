@@ -13,7 +13,7 @@ pub struct Entry<'a> {
 }
 
 // The first n events of a sheet.
-#[derive(Clone, Copy)]
+#[derive(Drop)]
 pub struct Contents<'a> {
     pub sheet: &'a [u8],
     pub entries: [Entry<'a>; EVENTS],

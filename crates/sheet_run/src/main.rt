@@ -35,7 +35,8 @@ fn checksum(cells: &[u16]) -> u32 {
     })
 }
 
-// Copies the piece so often, from a place on, as it fits: where it ends.
+// Copies the piece so often, from a place on, as it fits: where it ends. The place comes beside the bytes, since three pieces follow
+// each other there.
 fn repeat(bytes: &mut [u8], start: usize, piece: &[u8], times: usize) -> usize
     requires { start ≤ length bytes.old }
     ensures { result ≤ length bytes.new }

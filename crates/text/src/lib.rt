@@ -77,7 +77,8 @@ fn value_capped(s: &[u8], cap: usize) -> usize
     v
 }
 
-// Why a text is not a decimal number of at most so much: it is a larger one, or none.
+// Why a text is not a decimal number of at most so much: it is a larger one, or none. Two errors, since a sheet's first line is refused
+// otherwise for each.
 #[derive(Clone, Copy)]
 pub enum NoNumber {
     Above,

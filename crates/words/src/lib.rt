@@ -39,7 +39,7 @@ fn look_up(known: &[(&[u8], u16)], w: &[u8]) -> Option<u16>
         .map(|(_, set)| *set)
 }
 
-// The set of a word, or none where it is none.
+// The set of a word, or none where it is no word.
 fn meaning_of(w: &[u8]) -> Option<u16>
     ensures { result ≡ known_set (meaning words w.now) }
 {

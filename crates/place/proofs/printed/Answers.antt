@@ -3,5 +3,5 @@ use Rattle.std.proofs.Common.{arith}
 use Rattle.report.proofs.FewLaws.{place_within}
 use Rattle.place.proofs.printed.Goals as goal
 
-pub returns : goal.returns
-returns c = place_within _ _ _ _ _ (omega arith) c.place_report.ensures
+pub returns-clause-few : goal.returns-clause-few
+returns-clause-few c = place_within _ _ _ _ _ (omega arith) c.place_report.ensures

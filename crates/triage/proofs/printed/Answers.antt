@@ -3,5 +3,5 @@ use Rattle.std.proofs.Common.{arith}
 use Rattle.report.proofs.FewLaws.{triage_within}
 use Rattle.triage.proofs.printed.Goals as goal
 
-pub returns : goal.returns
-returns c = triage_within _ _ _ _ _ (omega arith) c.triage_report.ensures
+pub returns-clause-few : goal.returns-clause-few
+returns-clause-few c = triage_within _ _ _ _ _ (omega arith) c.triage_report.ensures
