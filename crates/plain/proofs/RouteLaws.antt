@@ -14,9 +14,9 @@ use Rattle.grid.proofs.CellLaws.{cell_both_other}
 use Rattle.theory.specs.Fair.{Fair}
 use Rattle.theory.specs.Allen.{allen}
 use Rattle.theory.specs.Quick.{cut_to}
-use Rattle.theory.specs.Sweeps.{Distinct, Progress, DeadEnd, Shrinks, none}
+use Rattle.theory.specs.Sweeps.{Distinct, Progress, DeadEnd, Shrinks, Cuts, none, more}
 use Rattle.theory.proofs.AllenLaws.{lawful, sized, eq_lawful}
-use Rattle.theory.proofs.PlainLaws.{progress_none, progress_one, progress_then}
+use Rattle.theory.proofs.PlainLaws.{cuts_fair, progress_none, progress_one, progress_then}
 use Rattle.plain.specs.Routes.{OverTo, EventTo, AllTo, Changes}
 
 -- the next part of a sweep
@@ -56,6 +56,11 @@ then_cut n S T g g₁ g₂ c F F₁ p s =
     or_true : (c : Bool) → (c || true) ≡ true
     or_true true = refl
     or_true false = refl
+
+-- cuts and then one more
+pub then_last : (n : ℕ) (S : ℕ → ℕ → ℕ → Type 0) (g g₁ g₂ : List ℕ) → Fair allen n g → Cuts allen n g g₁ → Shrinks allen n g₁ g₂ → Progress allen ones n S g g₂ true
+then_last n S g g₁ g₂ F none s = progress_one allen lawful ones sized n F.fine.few S g g₂ F.fine.fits s
+then_last n S g g₁ g₂ F (more {g₁ = h} k t) s = then_cut n S S g g₁ g₂ true F (cuts_fair allen lawful n g F (more k t)) (then_last n S g h g₁ F k t) s
 
 -- a route that changes its cell
 module _ (n m b a set : ℕ) (g : List ℕ) (F : Fair allen n g) (k : Changes n m b g a set) (lo : a < b) (hm : m < n) (hb : b < n) (mb : m ≡ b → ⊥) where

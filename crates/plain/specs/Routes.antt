@@ -41,6 +41,11 @@ abbrev pub Finds : ℕ → ℕ → ℕ → List ℕ → ℕ → Option (ℕ × �
 Finds n m b g k (Some f) = StillUntil n m b g k f.0 × (f.0 < b) × Changes n m b g f.0 f.1
 Finds n m b g k None = StillUntil n m b g k b
 
+-- the cuts over m to b, of which there is one or more
+abbrev pub CutsFrom : ℕ → ℕ → ℕ → List ℕ → Result (Unit {0}) Emptied → List ℕ → Type 0
+CutsFrom n m b g (Err e) g' = DeadEnd allen n g
+CutsFrom n m b g (Ok u) g' = Progress allen ones n (OverTo n m b b) g g' true
+
 -- a part of a sweep over the routes S
 abbrev pub Pass : ℕ → (ℕ → ℕ → ℕ → Type 0) → List ℕ → Result Bool Emptied → List ℕ → Type 0
 Pass n S g (Err e) g' = DeadEnd allen n g

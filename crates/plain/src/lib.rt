@@ -7,7 +7,7 @@ ghost use Rattle.grid.specs.Accepted.{Accepted};
 ghost use Rattle.theory.specs.Fair.{Fair};
 ghost use Rattle.theory.specs.Allen.{allen};
 ghost use Rattle.plain.specs.Answers.{PlainCloses};
-ghost use Rattle.plain.specs.Routes.{OverTo, EventTo, AllTo, Finds, Pass, Rests, Sweeps};
+ghost use Rattle.plain.specs.Routes.{OverTo, EventTo, AllTo, Changes, Finds, CutsFrom, Pass, Rests, Sweeps};
 
 use grid::Emptied;
 use refusal::Refusal;
@@ -96,17 +96,38 @@ fn sweep_over(g: &mut [u16], n: usize, m: usize, b: usize) -> Result<bool, Empti
         return Ok(false);
     }
     let rows = Rows::of(half);
-    let mut changed = false;
-    let mut k = 0;
-    while let Some((a, set)) = next_route(&rows, g, n, m, b, k) {
+    match next_route(&rows, g, n, m, b, 0) {
+        None => Ok(false),
+        Some(first) => {
+            cut_routes(&rows, g, n, m, b, first)?;
+            Ok(true)
+        }
+    }
+}
+
+// From the first route over m to b that changes its cell, each route that does is cut. With a loop of their own, the many routes
+// before it need not carry along whether something changed.
+fn cut_routes(
+    rows: &Rows,
+    g: &mut [u16],
+    n: usize,
+    m: usize,
+    b: usize,
+    first: (usize, u16),
+) -> Result<(), Emptied>
+    requires place { (rows.now ≡ cell n g.old m b) × (m < n) × (b < n) × (m ≡ b → ⊥) × Fair allen n g.old }
+    requires changes { (first.0 < b) × Changes n m b g.old first.0 first.1 }
+    ensures { CutsFrom n m b g.old result g.new }
+{
+    let mut route = Some(first);
+    while let Some((a, set)) = route {
         if set == 0 {
             return Err(Emptied);
         }
         grid::put_both(g, n, a, b, set);
-        changed = true;
-        k = a + 1;
+        route = next_route(rows, g, n, m, b, a + 1);
     }
-    Ok(changed)
+    Ok(())
 }
 
 // The first route over m to b from event k on that changes its cell: the event that it comes from, and what it leaves. Most routes

@@ -14,27 +14,6 @@ returns-then-half-eq-ALL c =
     nothing _ _ _ c.requires.2
     (λ x y z u. past_second _ _ c.requires.2 x y z u.3.ha u.3.hc u.3.hb (rw (u.1, u.2) (sym c.get-half.ensures ∙ c.if-half-eq-ALL.true)))
 
-pub loop-a-init : goal.loop-a-init
-loop-a-init c = (
-  omega arith,
-  refl,
-  nothing _ _ _ c.requires.2 (λ x y z u. absurd (omega (arith, u.0))),
-  c.of-rows.ensures ∙ c.get-half.ensures,
-)
-
-pub returns-then-set-eq0 : goal.returns-then-set-eq0
-returns-then-set-eq0 c =
-    let f = c.in-Some.ensures in
-    dead_then _ _ _ _ c.loop-a.invariant.2.cuts
-    (dead_end _ _ _ _ _ _ (cuts_fair _ lawful _ _ c.requires.2 c.loop-a.invariant.2.cuts) f.2 f.1 c.requires.0 c.requires.1 c.if-m-b.false c.if-set-eq0.true)
-
-pub loop-a-preserved : goal.loop-a-preserved
-loop-a-preserved c =
-    let f = c.in-Some.ensures in
-    let G = cuts_fair _ lawful _ _ c.requires.2 c.loop-a.invariant.2.cuts in
-    let cut = shrinks _ _ _ _ _ _ G f.2 f.1 c.requires.0 c.requires.1 c.if-m-b.false _ c.put_both.ensures c.if-set-eq0.false in (
-      omega (arith, f.1),
-      c.put_both.auto.g ∙ c.loop-a.invariant.1,
-      then_cut _ _ _ _ _ _ _ c.requires.2 G c.loop-a.invariant.2 cut,
-      c.loop-a.invariant.3 ∙ sym (half-same _ _ _ _ _ _ G f.2 f.1 c.requires.0 c.requires.1 c.if-m-b.false _ c.put_both.ensures),
-    )
+pub returns-in-None : goal.returns-in-None
+returns-in-None c =
+    nothing _ _ _ c.requires.2 (λ x y z u. rw (u.1, u.2) (c.in-None.ensures.each x (omega arith) u.0))
