@@ -1,5 +1,5 @@
 -- How the parts of a sweep fit together.
-use mathlib.Core.Path.{◌≡◌, refl, ap, sym, ◌∙◌, subst}
+use mathlib.Core.Path.{◌≡◌, ap, sym, ◌∙◌}
 use mathlib.Core.Logic.{◌⊎◌, inl, inr}
 use mathlib.Core.List.{List}
 use mathlib.Core.Bool.{Bool, true, false, ◌||◌}
@@ -45,22 +45,12 @@ module _ (n : ℕ) (g g₁ g₂ : List ℕ) (c d : Bool) (F : Fair allen n g) wh
 pub nothing : (n : ℕ) (S : ℕ → ℕ → ℕ → Type 0) (g : List ℕ) → Fair allen n g → ((a m b : ℕ) → S a m b → cut_to allen (cell n g) a m b ≡ cell n g a b) → Progress allen ones n S g g false
 nothing n S g F h = progress_none allen lawful ones sized n F.fine.few S g h
 
--- a cut after a part of a sweep
-pub then_cut : (n : ℕ) (S T : ℕ → ℕ → ℕ → Type 0) (g g₁ g₂ : List ℕ) (c : Bool) → Fair allen n g → Fair allen n g₁ → Progress allen ones n S g g₁ c → Shrinks allen n g₁ g₂
-    → Progress allen ones n T g g₂ true
-then_cut n S T g g₁ g₂ c F F₁ p s =
-    subst (Progress allen ones n T g g₂) (or_true c)
-    (progress_then allen lawful ones sized n F.fine.few S T g g₁ g₂ c true F.fine.fits p
-    (progress_one allen lawful ones sized n F.fine.few T g₁ g₂ F₁.fine.fits s) T (λ x y z u. inr u))
-  where
-    or_true : (c : Bool) → (c || true) ≡ true
-    or_true true = refl
-    or_true false = refl
-
--- cuts and then one more
-pub then_last : (n : ℕ) (S : ℕ → ℕ → ℕ → Type 0) (g g₁ g₂ : List ℕ) → Fair allen n g → Cuts allen n g g₁ → Shrinks allen n g₁ g₂ → Progress allen ones n S g g₂ true
-then_last n S g g₁ g₂ F none s = progress_one allen lawful ones sized n F.fine.few S g g₂ F.fine.fits s
-then_last n S g g₁ g₂ F (more {g₁ = h} k t) s = then_cut n S S g g₁ g₂ true F (cuts_fair allen lawful n g F (more k t)) (then_last n S g h g₁ F k t) s
+-- a cut after others: something changed
+pub then_cut : (n : ℕ) (S : ℕ → ℕ → ℕ → Type 0) (g g₁ g₂ : List ℕ) → Fair allen n g → Cuts allen n g g₁ → Shrinks allen n g₁ g₂ → Progress allen ones n S g g₂ true
+then_cut n S g g₁ g₂ F none s = progress_one allen lawful ones sized n F.fine.few S g g₂ F.fine.fits s
+then_cut n S g g₁ g₂ F (more {g₁ = h} k t) s =
+    progress_then allen lawful ones sized n F.fine.few S S g g₁ g₂ true true F.fine.fits (then_cut n S g h g₁ F k t)
+    (progress_one allen lawful ones sized n F.fine.few S g₁ g₂ (cuts_fair allen lawful n g F (more k t)).fine.fits s) S (λ x y z u. inl u)
 
 -- a route that changes its cell
 module _ (n m b a set : ℕ) (g : List ℕ) (F : Fair allen n g) (k : Changes n m b g a set) (lo : a < b) (hm : m < n) (hb : b < n) (mb : m ≡ b → ⊥) where

@@ -41,7 +41,7 @@ abbrev pub Finds : ℕ → ℕ → ℕ → List ℕ → ℕ → Option (ℕ × �
 Finds n m b g k (Some f) = StillUntil n m b g k f.0 × (f.0 < b) × Changes n m b g f.0 f.1
 Finds n m b g k None = StillUntil n m b g k b
 
--- the cuts over m to b, of which there is one or more
+-- the cuts over m to b, from a route on that changes its cell
 abbrev pub CutsFrom : ℕ → ℕ → ℕ → List ℕ → Result (Unit {0}) Emptied → List ℕ → Type 0
 CutsFrom n m b g (Err e) g' = DeadEnd allen n g
 CutsFrom n m b g (Ok u) g' = Progress allen ones n (OverTo n m b b) g g' true

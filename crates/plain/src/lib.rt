@@ -1,13 +1,13 @@
 // Plain closing of a grid: sweeps over all routes until one changes nothing.
 #![tactic(auto)]
 
-ghost use Rattle.std.specs.Prelude.{◌≡◌, ◌≤◌, ◌<◌};
+ghost use Rattle.std.specs.Prelude.{Some, ◌≡◌, ◌≤◌, ◌<◌};
 ghost use Rattle.grid.specs.Cells.{cell, Held};
 ghost use Rattle.grid.specs.Accepted.{Accepted};
 ghost use Rattle.theory.specs.Fair.{Fair};
 ghost use Rattle.theory.specs.Allen.{allen};
 ghost use Rattle.plain.specs.Answers.{PlainCloses};
-ghost use Rattle.plain.specs.Routes.{OverTo, EventTo, AllTo, Changes, Finds, CutsFrom, Pass, Rests, Sweeps};
+ghost use Rattle.plain.specs.Routes.{OverTo, EventTo, AllTo, Finds, CutsFrom, Pass, Rests, Sweeps};
 
 use grid::Emptied;
 use refusal::Refusal;
@@ -105,8 +105,8 @@ fn sweep_over(g: &mut [u16], n: usize, m: usize, b: usize) -> Result<bool, Empti
     }
 }
 
-// From the first route over m to b that changes its cell, each route that does is cut. With a loop of their own, the many routes
-// before it need not carry along whether something changed.
+// Cuts the first route over m to b that changes its cell, and each after it that does. The search for the first is a loop of its own in
+// sweep_over: most routes change nothing, and that loop need not keep whether something changed.
 fn cut_routes(
     rows: &Rows,
     g: &mut [u16],
@@ -115,8 +115,7 @@ fn cut_routes(
     b: usize,
     first: (usize, u16),
 ) -> Result<(), Emptied>
-    requires place { (rows.now ≡ cell n g.old m b) × (m < n) × (b < n) × (m ≡ b → ⊥) × Fair allen n g.old }
-    requires changes { (first.0 < b) × Changes n m b g.old first.0 first.1 }
+    requires { (rows.now ≡ cell n g.old m b) × (m < n) × (b < n) × (m ≡ b → ⊥) × Finds n m b g.old 0 (Some first) × Fair allen n g.old }
     ensures { CutsFrom n m b g.old result g.new }
 {
     let mut route = Some(first);

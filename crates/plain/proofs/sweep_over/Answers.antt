@@ -1,8 +1,7 @@
 -- The routes so far, those passed over, and then one that cuts. Where nothing is said of m to b, each is passed over.
-use mathlib.Core.Path.{refl, sym, ◌∙◌}
-use Rattle.theory.proofs.AllenLaws.{lawful, past_second}
-use Rattle.theory.proofs.PlainLaws.{cuts_fair, dead_then}
-use Rattle.plain.proofs.RouteLaws.{nothing, then_cut, dead_end, shrinks, half-same}
+use mathlib.Core.Path.{sym, ◌∙◌}
+use Rattle.theory.proofs.AllenLaws.{past_second}
+use Rattle.plain.proofs.RouteLaws.{nothing}
 use native.Mathlib.Omega.{arith}
 use Rattle.plain.proofs.sweep_over.Goals as goal
 
