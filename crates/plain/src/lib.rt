@@ -105,8 +105,8 @@ fn sweep_over(g: &mut [u16], n: usize, m: usize, b: usize) -> Result<bool, Empti
     }
 }
 
-// Cuts the first route over m to b that changes its cell, and each after it that does. The search for the first is a loop of its own in
-// sweep_over: most routes change nothing, and that loop need not keep whether something changed.
+// Cuts the first route over m to b that changes its cell, and each after it that does. The first is looked for in sweep_over: most
+// routes change nothing, and there the loop over them need not keep whether something changed.
 fn cut_routes(
     rows: &Rows,
     g: &mut [u16],
