@@ -148,6 +148,33 @@ impl Take {
     }
 }
 
+// One take of (i, j), cut by cut.
+fn take_cuts(
+    list: &mut WaitingList,
+    g: &mut [u16],
+    n: usize,
+    i: usize,
+    j: usize,
+) -> Result<(), Emptied>
+    requires { (i < n) × (j < n) × (i ≡ j → ⊥) × Fair allen n g.old × Pairs n list.old }
+    ensures step { stepped result g.new list.new ≡ turns allen n i j n 0 g.old list.old }
+    ensures fair { IfOk result (λ _. Fair allen n g.new) }
+    ensures pairs { Pairs n list.new }
+{
+    let take = Take {
+        i,
+        j,
+        there: Rows::of(grid::get(g, n, i, j)),
+        back: Rows::of(grid::get(g, n, j, i)),
+    };
+    let mut c = 0;
+    while let Some(found) = take.next_cut(g, n, c) {
+        take.make_cut(list, g, n, found)?;
+        c = found.at + 1;
+    }
+    Ok(())
+}
+
 // One take of (i, j). Where nothing is said of i to j, it changes nothing.
 fn take_pair(
     list: &mut WaitingList,
@@ -161,22 +188,10 @@ fn take_pair(
     ensures fair { IfOk result (λ _. Fair allen n g.new) }
     ensures pairs { Pairs n list.new }
 {
-    let set = grid::get(g, n, i, j);
-    if set == grid::ALL {
+    if grid::get(g, n, i, j) == grid::ALL {
         return Ok(());
     }
-    let take = Take {
-        i,
-        j,
-        there: Rows::of(set),
-        back: Rows::of(grid::get(g, n, j, i)),
-    };
-    let mut c = 0;
-    while let Some(found) = take.next_cut(g, n, c) {
-        take.make_cut(list, g, n, found)?;
-        c = found.at + 1;
-    }
-    Ok(())
+    take_cuts(list, g, n, i, j)
 }
 
 // At most limit takes, after which nothing waits.

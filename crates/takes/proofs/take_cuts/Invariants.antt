@@ -7,7 +7,7 @@ use Rattle.theory.specs.Quick.{turns}
 use Rattle.theory.specs.Cuts.{cuts_from}
 use Rattle.theory.proofs.KeepLaws.{Good}
 use Rattle.takes.specs.Steps.{Sees}
-use Rattle.takes.proofs.take_pair.Given as goal
+use Rattle.takes.proofs.take_cuts.Given as goal
 
 abbrev pub invariant-loop-found : goal.invariant-loop-found
 invariant-loop-found l = (l.c ≤ l.n * 2) × (length l.g ≡ length l.initial.g) × Pairs l.n l.list
