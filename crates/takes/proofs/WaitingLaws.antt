@@ -16,7 +16,7 @@ use Rattle.std.specs.List.{count_by}
 use Rattle.relation.specs.Sets.{one_if}
 use Rattle.theory.specs.Line.{occurs, joins}
 use Rattle.theory.proofs.LineLaws.{occurs-append, occurs-cons-same, occurs-cons-other, occurs_nil}
-use Rattle.takes.specs.Waiting.{queue_of, Waiting}
+use Rattle.takes.specs.Waiting.{queue_of, first_of, line_of, Waiting}
 
 -- the head counts round
 pub queue_round : (ring : List ℕ) (h h' l : ℕ) → h % 1024 ≡ h' % 1024 → queue_of ring h l ≡ queue_of ring h' l
@@ -69,41 +69,49 @@ marks-room : (waits : List Bool) (p : ℕ) → p < length waits → get_or waits
 marks-room waits p h z =
     omega (arith, marks-set waits p true h, ap one_if z, count_by-le-length (λ b. b) (set waits p true), length-set waits p true)
 
-module _ (ring : List ℕ) (waits : List Bool) (h l : ℕ) (places : length ring ≡ 1024) (room : length waits ≡ 1024) (w : Waiting ring waits h l) (p : ℕ) where
+module _ (ring : List ℕ) (waits : List Bool) (end l : ℕ) (places : length ring ≡ 1024) (room : length waits ≡ 1024) (w : Waiting ring waits end l) (p : ℕ) where
   -- a mark says whether a pair waits, so joining is decided by it
-  pub joins-none : p < 1024 → get_or waits p false ≡ true → joins p (queue_of ring h l) ≡ queue_of ring h l
+  pub joins-none : p < 1024 → get_or waits p false ≡ true → joins p (line_of ring end l) ≡ line_of ring end l
   unfolding joins
-  joins-none hp f = simp (ne_eqb (occurs p (queue_of ring h l)) 0 (λ e. omega (arith, e, w.marked p hp, ap one_if f)))
+  joins-none hp f = simp (ne_eqb (occurs p (line_of ring end l)) 0 (λ e. omega (arith, e, w.marked p hp, ap one_if f)))
 
   module _ (hp : p < 1024) (f : get_or waits p false ≡ false) where
     pub line_room : l < 1024
     line_room = omega (arith, marks-room waits p (omega arith) f, w.counted)
 
-    pub joined : queue_of (set ring ((h + l) % 1024) p) h (l + 1) ≡ joins p (queue_of ring h l)
+    last_place : end ≡ (first_of end l + l) % 1024
+    last_place = omega (arith, w.end-small, line_room)
+
+    same_first : first_of ((end + 1) % 1024) (l + 1) ≡ first_of end l
+    same_first = omega (arith, w.end-small, line_room)
+
+    grown : line_of (set ring end p) ((end + 1) % 1024) (l + 1) ≡ line_of ring end l ++ (p ∷ [])
+    grown =
+        ap₂ (λ (x y : ℕ). queue_of (set ring x p) y (l + 1)) last_place same_first
+        ∙ rw (add-one l) (queue_push ring (first_of end l) l p places line_room)
+
+    pub joined : line_of (set ring end p) ((end + 1) % 1024) (l + 1) ≡ joins p (line_of ring end l)
     unfolding joins
-    joined = rw (add-one l, queue_push ring h l p places line_room) (simp (eq-eqb (occurs p (queue_of ring h l)) 0 (sym (w.marked p hp) ∙ ap one_if f)))
+    joined = grown ∙ simp (eq-eqb (occurs p (line_of ring end l)) 0 (sym (w.marked p hp) ∙ ap one_if f))
 
-    grown : queue_of (set ring ((h + l) % 1024) p) h (l + 1) ≡ queue_of ring h l ++ (p ∷ [])
-    grown = rw (add-one l) (queue_push ring h l p places line_room)
-
-    join-marked : (c : ℕ) → c < 1024 → one_if (get_or (set waits p true) c false) ≡ occurs c (queue_of (set ring ((h + l) % 1024) p) h (l + 1))
+    join-marked : (c : ℕ) → c < 1024 → one_if (get_or (set waits p true) c false) ≡ occurs c (line_of (set ring end p) ((end + 1) % 1024) (l + 1))
     join-marked c hc = rw grown (go (ℕ_discrete c p))
       where
-        go : Dec (c ≡ p) → one_if (get_or (set waits p true) c false) ≡ occurs c (queue_of ring h l ++ (p ∷ []))
-        go (yes e) = rw e (omega (arith, ap one_if (get_or-set_same waits p true false (omega arith)), occurs_snoc_same p (queue_of ring h l), w.marked p hp, ap one_if f))
-        go (no ne) = ap one_if (get_or-set_other waits p c true false ne) ∙ w.marked c hc ∙ sym (occurs_snoc_other c p (queue_of ring h l) ne)
+        go : Dec (c ≡ p) → one_if (get_or (set waits p true) c false) ≡ occurs c (line_of ring end l ++ (p ∷ []))
+        go (yes e) = rw e (omega (arith, ap one_if (get_or-set_same waits p true false (omega arith)), occurs_snoc_same p (line_of ring end l), w.marked p hp, ap one_if f))
+        go (no ne) = ap one_if (get_or-set_other waits p c true false ne) ∙ w.marked c hc ∙ sym (occurs_snoc_other c p (line_of ring end l) ne)
 
-    join-small : (c : ℕ) → 0 < occurs c (queue_of (set ring ((h + l) % 1024) p) h (l + 1)) → c < 1024
+    join-small : (c : ℕ) → 0 < occurs c (line_of (set ring end p) ((end + 1) % 1024) (l + 1)) → c < 1024
     join-small c o = go (ℕ_discrete c p) (rw grown at o)
       where
-        go : Dec (c ≡ p) → 0 < occurs c (queue_of ring h l ++ (p ∷ [])) → c < 1024
+        go : Dec (c ≡ p) → 0 < occurs c (line_of ring end l ++ (p ∷ [])) → c < 1024
         go (yes e) o = rw e hp
-        go (no ne) o = w.small c (rw (occurs_snoc_other c p (queue_of ring h l) ne) at o)
+        go (no ne) o = w.small c (rw (occurs_snoc_other c p (line_of ring end l) ne) at o)
 
-    pub join-waiting : Waiting (set ring ((h + l) % 1024) p) (set waits p true) h (l + 1)
+    pub join-waiting : Waiting (set ring end p) (set waits p true) ((end + 1) % 1024) (l + 1)
     join-waiting =
         record {
-          head_small = w.head_small;
+          end-small = omega arith;
           len-small = omega (arith, line_room);
           marked = join-marked;
           counted = omega (arith, marks-set waits p true (omega arith), w.counted, ap one_if f);
@@ -111,15 +119,18 @@ module _ (ring : List ℕ) (waits : List Bool) (h l : ℕ) (places : length ring
         }
 
 -- the first pair leaves
-module _ (ring : List ℕ) (waits : List Bool) (h l : ℕ) (places : length ring ≡ 1024) (room : length waits ≡ 1024) (w : Waiting ring waits h (suc l)) where
+module _ (ring : List ℕ) (waits : List Bool) (end l : ℕ) (places : length ring ≡ 1024) (room : length waits ≡ 1024) (w : Waiting ring waits end (suc l)) where
   abbrev rest : List ℕ
-  rest = queue_of ring ((h + 1) % 1024) l
+  rest = line_of ring end l
 
   abbrev first : ℕ
-  first = get_or ring h 0
+  first = get_or ring (first_of end (suc l)) 0
 
-  left : queue_of ring h (suc l) ≡ first ∷ rest
-  left = queue_pop ring h l w.head_small
+  second_place : (first_of end (suc l) + 1) % 1024 ≡ first_of end l
+  second_place = omega (arith, w.end-small, w.len-small)
+
+  left : line_of ring end (suc l) ≡ first ∷ rest
+  left = queue_pop ring (first_of end (suc l)) l (omega arith) ∙ ap (λ (x : ℕ). first ∷ queue_of ring x l) second_place
 
   first-small : first < 1024
   first-small = w.small first (rw left (omega (arith, occurs-cons-same first rest)))
@@ -148,10 +159,10 @@ module _ (ring : List ℕ) (waits : List Bool) (h l : ℕ) (places : length ring
       go (yes e) = rw e first-small
       go (no ne) = w.small c (rw (left, occurs-cons-other c first rest ne) o)
 
-  pop-waiting : Waiting ring (set waits first false) ((h + 1) % 1024) l
+  pop-waiting : Waiting ring (set waits first false) end l
   pop-waiting =
       record {
-        head_small = omega arith;
+        end-small = w.end-small;
         len-small = omega (arith, w.len-small);
         marked = pop-marked;
         counted = omega (arith, marks-set waits first false (omega (arith, first-small)), w.counted, first_in, first-once);
@@ -159,23 +170,23 @@ module _ (ring : List ℕ) (waits : List Bool) (h l : ℕ) (places : length ring
       }
 
 -- the first pair of a list that is not empty, and the list without it
-pub record Left (ring : List ℕ) (waits : List Bool) (h l : ℕ) : Type 0 where
-  pub small : get_or ring h 0 < 1024
-  pub waiting : Waiting ring (set waits (get_or ring h 0) false) ((h + 1) % 1024) (l - 1)
-  pub was : queue_of ring h l ≡ get_or ring h 0 ∷ queue_of ring ((h + 1) % 1024) (l - 1)
+pub record Left (ring : List ℕ) (waits : List Bool) (end l : ℕ) : Type 0 where
+  pub small : get_or ring (first_of end l) 0 < 1024
+  pub waiting : Waiting ring (set waits (get_or ring (first_of end l) 0) false) end (l - 1)
+  pub was : line_of ring end l ≡ get_or ring (first_of end l) 0 ∷ line_of ring end (l - 1)
 
-pub leaves : (ring : List ℕ) (waits : List Bool) (h l : ℕ) → length ring ≡ 1024 → length waits ≡ 1024 → Waiting ring waits h l → (l ≡ 0 → ⊥) → Left ring waits h l
-leaves ring waits h (suc l) places room w ne =
-    let e : suc l - 1 ≡ l = omega arith in
-    record { small = first-small ring waits h l places room w; waiting = rw e (pop-waiting ring waits h l places room w); was = rw e (left ring waits h l places room w) }
-leaves ring waits h zero places room w ne = absurd (ne refl)
+pub leaves : (ring : List ℕ) (waits : List Bool) (end l : ℕ) → length ring ≡ 1024 → length waits ≡ 1024 → Waiting ring waits end l → (l ≡ 0 → ⊥) → Left ring waits end l
+leaves ring waits end (suc l) places room w ne =
+    let d : suc l - 1 ≡ l = omega arith in
+    record { small = first-small ring waits end l places room w; waiting = rw d (pop-waiting ring waits end l places room w); was = rw d (left ring waits end l places room w) }
+leaves ring waits end zero places room w ne = absurd (ne refl)
 
 -- nothing waits
-pub empty_waiting : (ring : List ℕ) → Waiting ring (replicate 1024 false) 0 0
+pub empty_waiting : (ring : List ℕ) (end : ℕ) → end < 1024 → Waiting ring (replicate 1024 false) end 0
 unfolding queue_of
-empty_waiting ring =
+empty_waiting ring end small =
     record {
-      head_small = omega arith;
+      end-small = small;
       len-small = omega arith;
       marked = λ p h. ap one_if (get_or-replicate 1024 p false false h) ∙ sym (occurs_nil p);
       counted = sum_by-replicate (λ b. cond b 1 0) 1024 false;

@@ -4,25 +4,25 @@ ghost use Rattle.theory.specs.Line.{joins};
 
 use std::marker::Model;
 
-// The pairs that wait for a take, in their order. The ring holds them from head on, and waits marks each of them. A pair waits once
-// at most, so that the ring has a place for each.
+// The pairs that wait for a take, in their order. The ring holds len of them, the last before place end, and waits marks each of
+// them. A pair waits once at most, so that the ring has a place for each.
 #[derive(Drop)]
 pub struct WaitingList {
     ring: [u16; 1024],
     waits: [bool; 1024],
-    head: usize,
+    end: usize,
     len: usize,
 }
 
 impl Model for WaitingList {
     ghost use Rattle.std.specs.Prelude.{List, ℕ};
-    ghost use Rattle.takes.specs.Waiting.{queue_of, Waiting};
+    ghost use Rattle.takes.specs.Waiting.{line_of, Waiting};
 
     ghost Value = { List ℕ };
 
-    ghost view = { λ a. queue_of a.ring a.head a.len };
+    ghost view = { λ a. line_of a.ring a.end a.len };
 
-    ghost invariant = { λ a. Waiting a.ring a.waits a.head a.len };
+    ghost invariant = { λ a. Waiting a.ring a.waits a.end a.len };
 }
 
 impl WaitingList {
@@ -32,7 +32,7 @@ impl WaitingList {
         WaitingList {
             ring: [0; 1024],
             waits: [false; 1024],
-            head: 0,
+            end: 0,
             len: 0,
         }
     }
@@ -46,9 +46,11 @@ impl WaitingList {
             return;
         }
         // By value, here and in leave: after a store into an array the compiler would read the field again.
+        let end = self.end;
         let len = self.len;
-        self.ring[(self.head + len) % 1024] = p as u16;
+        self.ring[end] = p as u16;
         self.waits[p] = true;
+        self.end = (end + 1) % 1024;
         self.len = len + 1;
     }
 
@@ -56,14 +58,12 @@ impl WaitingList {
     pub fn leave(&mut self) -> Option<usize>
         ensures { MatchOption result ((self.old ≡ []) × (self.new ≡ [])) (λ p. self.old ≡ p ∷ self.new) }
     {
-        let head = self.head;
         let len = self.len;
         if len == 0 {
             return None;
         }
-        let p = self.ring[head] as usize;
+        let p = self.ring[(self.end + 1024 - len) % 1024] as usize;
         self.waits[p] = false;
-        self.head = (head + 1) % 1024;
         self.len = len - 1;
         Some(p)
     }
@@ -73,7 +73,6 @@ impl WaitingList {
         ensures { self.new ≡ [] }
     {
         self.waits = [false; 1024];
-        self.head = 0;
         self.len = 0;
     }
 }
