@@ -9,16 +9,28 @@ use native.Mathlib.Decide.{ℕ_discrete}
 use lib.Arith.{digits_lt, digits_div, digits_mod}
 use lib.Bits.{and_le_l}
 use lib.Dec.{eqb}
-use lib.ListN.{length, take}
+use lib.ListN.{length, take, replicate, get_or, length-append, length-replicate, get_or-append}
+use Rattle.std.proofs.lemmas.List.{get_or-replicate, length-take-le}
 use lib.Seq.{get_or-take, take-set-lt}
 use borrow.Author.Tests.{eq-eqb, ne_eqb}
 use Rattle.relation.specs.Composition.{converse}
 use Rattle.relation.proofs.ExchangeLaws.{converse_lt, converse_twice, converse-eq, converse-all}
 use Rattle.grid.specs.Cells.{cell, put, put_both}
 use Rattle.grid.specs.Accepted.{Accepted}
-use Rattle.grid.proofs.CellLaws.{up_to-length, up_to-at, put_both-length, cell_both_here, cell_both_mirror, cell_both_other}
+use Rattle.grid.proofs.CellLaws.{up_to-length, up_to-at, put-length, cell-put-same, cell-put-other, same-cells, put_both-length, cell_both_here, cell_both_mirror, cell_both_other}
 use Rattle.statements.specs.Statements.{Statement, Fits, AllFit}
 use Rattle.statements.specs.Grid.{start_cell, start_grid, left_by, cut_by, cut_all, grid_of}
+
+-- ---- the front of a room
+
+module _ (n : ℕ) (g : List ℕ) (i j : ℕ) (hi : i < n) (hj : j < n) where
+  take_put : (a : ℕ) → take (n * n) (put n g i j a) ≡ put n (take (n * n) g) i j a
+  unfolding put
+  take_put a = take-set-lt (n * n) g (i * n + j) a (digits_lt hi hj)
+
+  take-cell : cell n (take (n * n) g) i j ≡ cell n g i j
+  unfolding cell
+  take-cell = get_or-take (n * n) g (i * n + j) 0 (digits_lt hi hj)
 
 -- ---- the start
 
@@ -36,6 +48,46 @@ module _ (n i j : ℕ) (hi : i < n) (hj : j < n) where
 
   pub start-other : (i ≡ j → ⊥) → cell n (start_grid n) i j ≡ 8191
   start-other e = start-at ∙ rw (ne_eqb i j e)
+
+-- a grid that is filled: any in each cell, and eq in those of the diagonal before k
+pub record Filled (n k : ℕ) (g : List ℕ) : Type 0 where
+  pub fits : n * n ≤ length g
+  pub eq : (x : ℕ) → x < k → cell n g x x ≡ 4096
+  pub any : (x y : ℕ) → x < n → y < n → (x ≡ y → k ≤ x) → cell n g x y ≡ 8191
+
+pub filled_none : (n : ℕ) (front back : List ℕ) → front ≡ replicate (n * n) 8191 → Filled n 0 (front ++ back)
+unfolding cell
+filled_none n front back is =
+    let long : length front ≡ n * n = ap length is ∙ length-replicate {A = ℕ} (n * n) 8191 in
+    record {
+      fits = omega (arith, length-append front back, long);
+      eq = λ x h. absurd (omega (arith, h));
+      any = λ x y hx hy h.
+          let inside : x * n + y < n * n = digits_lt hx hy in
+          get_or-append front back 0 (x * n + y) (rw long inside)
+          ∙ ap (λ (l : List ℕ). get_or l (x * n + y) 0) is ∙ get_or-replicate {A = ℕ} (n * n) (x * n + y) 8191 0 inside;
+    }
+
+pub filled-more : (n k : ℕ) (g : List ℕ) → Filled n k g → k < n → Filled n (k + 1) (put n g k k 4096)
+filled-more n k g f hk =
+    record {
+      fits = omega (arith, f.fits, put-length n g k k 4096);
+      eq = λ x h. elim (ℕ_discrete x k) [
+        | yes e ↦ rw e (cell-put-same n g f.fits k k 4096 hk hk)
+        | no e ↦ cell-put-other n g f.fits k k 4096 hk hk x x (omega (arith, h, hk)) (λ w. e w.0) ∙ f.eq x (omega (arith, h, e))
+      ];
+      any = λ x y hx hy h.
+          cell-put-other n g f.fits k k 4096 hk hk x y hy (λ w. omega (arith, w.0, h (w.0 ∙ sym w.1)))
+          ∙ f.any x y hx hy (λ e. omega (arith, h e));
+    }
+
+pub filled_all : (n : ℕ) (g : List ℕ) → Filled n n g → take (n * n) g ≡ start_grid n
+filled_all n g f =
+    same-cells n (take (n * n) g) (start_grid n) (length-take-le (n * n) g f.fits) (start-length n)
+    (λ i j hi hj. take-cell n g i j hi hj ∙ elim (ℕ_discrete i j) [
+      | yes e ↦ rw (← e) (f.eq i hi) ∙ sym (start-same n i j hi hj e)
+      | no e ↦ f.any i j hi hj (λ d. absurd (e d)) ∙ sym (start-other n i j hi hj e)
+    ])
 
 pub start-accepted : (n : ℕ) → n ≤ 32 → Accepted n (start_grid n)
 start-accepted n h =
@@ -154,15 +206,6 @@ cut-append n g [] ys = refl
 cut-append n g (x ∷ xs) ys = cut-append n (cut_by n g x) xs ys
 
 -- ---- the grid in the front of a room
-
-module _ (n : ℕ) (g : List ℕ) (i j : ℕ) (hi : i < n) (hj : j < n) where
-  take_put : (a : ℕ) → take (n * n) (put n g i j a) ≡ put n (take (n * n) g) i j a
-  unfolding put
-  take_put a = take-set-lt (n * n) g (i * n + j) a (digits_lt hi hj)
-
-  take-cell : cell n (take (n * n) g) i j ≡ cell n g i j
-  unfolding cell
-  take-cell = get_or-take (n * n) g (i * n + j) 0 (digits_lt hi hj)
 
 take-cut : (n : ℕ) (g : List ℕ) (t : Statement) → Fits n t → take (n * n) (cut_by n g t) ≡ cut_by n (take (n * n) g) t
 unfolding cut_by put_both

@@ -2,23 +2,16 @@
 #![tactic(auto)]
 
 ghost use Rattle.std.specs.Prelude.{◌≡◌, ◌*◌, ◌≤◌, ◌<◌, length, take};
-ghost use Rattle.statements.specs.Grid.{start_cell, start_grid, cut_by};
-
-// What place p of the grid holds before any statement.
-fn start_cell(n: usize, p: usize) -> u16
-    requires { 0 < n }
-    ensures { result ≡ start_cell n p }
-{
-    if p / n == p % n { grid::EQ } else { grid::ALL }
-}
+ghost use Rattle.statements.specs.Grid.{start_grid, cut_by};
 
 // Any for each pair, eq for an event to itself.
 pub fn fill_start(g: &mut [u16], n: usize)
     requires { (n ≤ 32) × (n * n ≤ length g.old) }
     ensures { take (n * n) g.new ≡ start_grid n }
 {
-    for p in 0..n * n {
-        g[p] = start_cell(n, p);
+    g[..n * n].fill(grid::ALL);
+    for i in 0..n {
+        g[i * n + i] = grid::EQ;
     }
 }
 
