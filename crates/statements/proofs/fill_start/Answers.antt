@@ -3,7 +3,7 @@ use mathlib.Core.Path.{◌≡◌}
 use borrow.Author.Rules.{rules}
 use native.Mathlib.Omega.{arith}
 use Rattle.grid.specs.Cells.{put}
-use Rattle.statements.proofs.GridLaws.{Filled, filled_none, filled-more, filled_all}
+use Rattle.statements.proofs.GridLaws.{filled_none, filled-more, filled_all}
 use Rattle.statements.proofs.fill_start.Goals as goal
 
 pub loop-i-init : goal.loop-i-init
