@@ -50,6 +50,7 @@ fn sweep_to_rest(g: &mut [u16], n: usize) -> Result<(), Emptied>
     if grid::some_empty(g) {
         return Err(Emptied);
     }
+    // A loop: how many sweeps are needed is what it finds out.
     loop {
         let changed = sweep_all(g, n)?;
         if !changed {
@@ -119,6 +120,7 @@ fn cut_routes(
     ensures { CutsFrom n m b g.old result g.new }
 {
     let mut route = Some(first);
+    // From one change to the next: what lies between is only read.
     while let Some((a, set)) = route {
         if set == 0 {
             return Err(Emptied);

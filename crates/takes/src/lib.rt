@@ -148,7 +148,8 @@ impl Take {
     }
 }
 
-// One take of (i, j), cut by cut.
+// One take of (i, j), cut by cut. It is a function of its own so that a take that changes nothing makes no room for the rows. `Fair` and
+// `Pairs` stay clauses, here and in other rooms: they hold of lent cells and of a list at a moment, and not of each.
 fn take_cuts(
     list: &mut WaitingList,
     g: &mut [u16],
@@ -168,6 +169,7 @@ fn take_cuts(
         back: Rows::of(grid::get(g, n, j, i)),
     };
     let mut c = 0;
+    // From one change to the next: what lies between is only read.
     while let Some(found) = take.next_cut(g, n, c) {
         take.make_cut(list, g, n, found)?;
         c = found.at + 1;
@@ -201,6 +203,7 @@ pub fn takes(list: &mut WaitingList, g: &mut [u16], n: usize, limit: usize) -> E
     ensures idle { list.new ≡ [] }
 {
     let mut t = 0;
+    // The list grows as cells are cut, so that the takes are no range.
     while let Some(p) = list.leave() {
         if t == limit {
             list.clear();

@@ -1,4 +1,6 @@
 // The waiting list: a ring of pairs, with a mark for each pair that waits.
+#![tactic(auto)]
+
 ghost use Rattle.std.specs.Prelude.{◌≡◌, [], ◌∷◌, ◌<◌, MatchOption};
 ghost use Rattle.theory.specs.Line.{joins};
 

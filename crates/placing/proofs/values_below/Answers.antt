@@ -45,6 +45,3 @@ loop-v-preserved c =
       filled_more (values_below (λ p. get_or c.args.counts.now p 0) (length c.args.counts.now)) c.loop-v.belows (c.loop-v.v-counter + 1) _ at c.loop-v.invariant.1
           (values_step (λ p. get_or c.args.counts.now p 0) (length c.args.counts.now) c.loop-v.v-counter (get_or c.loop-v.belows c.loop-v.v-counter 0) _ c.contains.result c.contains.result here (contained c.args.counts.now c.loop-v.v-counter c.contains.result c.contains.ensures.cases) refl (omega (arith, digit c.contains.result c.from.result c.from.ensures))),
     )
-
-pub returns : goal.returns
-returns c = record { each = λ v h. c.loop-v.invariant.1 v (omega arith) }
