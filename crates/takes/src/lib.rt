@@ -148,8 +148,9 @@ impl Take {
     }
 }
 
-// One take of (i, j), cut by cut. It is a function of its own so that a take that changes nothing makes no room for the rows. `Fair` and
-// `Pairs` stay clauses, here and in other rooms: they hold of lent cells and of a list at a moment, and not of each.
+// One take of (i, j), cut by cut. By itself, since a function clears the room of its rows where it begins: of most pairs nothing is
+// said, and they need none. `Fair` and `Pairs` stay clauses, here and in other rooms: they hold of lent cells and of a list at a
+// moment, and not of each.
 fn take_cuts(
     list: &mut WaitingList,
     g: &mut [u16],

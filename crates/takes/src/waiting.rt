@@ -47,7 +47,7 @@ impl WaitingList {
         if self.waits[p] {
             return;
         }
-        // By value, here and in leave: after a store into an array the compiler would read the field again.
+        // By value, here and in leave: after a store into an array the compiler would read the fields again.
         let end = self.end;
         let len = self.len;
         self.ring[end] = p as u16;
@@ -64,6 +64,7 @@ impl WaitingList {
         if len == 0 {
             return None;
         }
+        // The end stays, so that the next pair need not wait for a store: only the length changes.
         let p = self.ring[(self.end + 1024 - len) % 1024] as usize;
         self.waits[p] = false;
         self.len = len - 1;
