@@ -177,7 +177,7 @@ fn is_before(grid: Grid, p: usize, q: usize) -> bool
     grid.get(p / 2, q / 2) & earlier(p % 2, q % 2) != 0
 }
 
-// How many ends are before end p.
+// How many ends are before end p. By a loop: with `filter` and `count` over the range the goal stays open.
 fn ends_before(grid: Grid, p: usize) -> usize
     requires { p < 2 * grid.n }
     ensures { result ≡ ends_before grid.entry.n grid.entry.cells.now p }
@@ -196,8 +196,8 @@ fn count_ends(grid: Grid) -> [usize; ENDS]
     ensures { Counts grid.entry.n grid.entry.cells.now result }
 {
     let mut counts = [0; ENDS];
-    for p in 0..2 * grid.n {
-        counts[p] = ends_before(grid, p);
+    for (p, count) in counts[..2 * grid.n].iter_mut().enumerate() {
+        *count = ends_before(grid, p);
     }
     counts
 }
@@ -214,7 +214,8 @@ fn values_below(counts: &[usize]) -> [usize; ENDS + 1]
     belows
 }
 
-// The number of each end: how many different values are below its own.
+// The number of each end: how many different values are below its own. By index: of what `zip` over `iter_mut` writes the proof keeps
+// nothing.
 fn number_ends(grid: Grid) -> [i32; ENDS]
     ensures { Numbers grid.entry.n grid.entry.cells.now result }
 {
