@@ -1,13 +1,11 @@
 -- What is known of a result by its refusal's number.
-use mathlib.Core.Path.{◌≡◌, refl, sym, ap, ◌∙◌, subst}
-use Prim.Native.Nat.{ℕ, ◌<◌}
+use mathlib.Core.Path.{◌≡◌, refl, sym, ap, ◌∙◌}
+use Prim.Native.Nat.{ℕ}
 use native.Mathlib.Omega.{arith}
 use Rattle.std.proofs.Common.{Result, Ok, Err}
-use Rattle.refusal.specs.Numbers.{number_of}
-use Rattle.refusal.specs.Answered.{said_of, refusal_of, first_of}
+use Rattle.refusal.specs.Answered.{said_of, refusal_of}
 use Rattle.refusal.specs.declared.Refusal.{Refusal}
 use Rattle.refusal.proofs.NumberLaws.{number_pos, number_unique}
-use Rattle.refusal.proofs.AnsweredLaws.{first_here}
 
 -- results that say the same
 pub said_unique : {A : Type 0} (r s : Result A Refusal) → said_of r ≡ said_of s → r ≡ s

@@ -7,7 +7,7 @@ use lib.Dec.{T, eqb, ltb, eqb→eq, eqb_refl, ltb→lt}
 use lib.Bits.{bit_and, bit_or, and_le_l}
 use Rattle.relation.specs.Comparing.{rel_of}
 use Rattle.relation.specs.Meaning.{Event, exchanged}
-use Rattle.relation.specs.Sets.{member, set_below, set_of, some, union_over, Inside}
+use Rattle.relation.specs.Sets.{member, set_below, set_of, some, union_over}
 use Rattle.relation.specs.Composition.{converse}
 use Rattle.relation.proofs.Tested.{T_of, of_T, and_left, and_right, all, all-at, both_ways}
 use Rattle.relation.proofs.Relations.{rel_of_lt, exactly_one, exchanged-holds}

@@ -1,6 +1,5 @@
 -- From the code's answers to the public statement.
 use mathlib.Core.Path.{◌≡◌, refl, sym, ap, subst, ◌∙◌}
-use mathlib.Core.Logic.{◌⊎◌, inl, inr}
 use mathlib.Core.Bool.{Bool, true, false, cond}
 use mathlib.Core.List.{List}
 use Prim.Native.Nat.{ℕ, ◌*◌, ◌≤◌}
@@ -33,7 +32,6 @@ use Rattle.search.specs.Answers.{search_refusal, said_by, room_by, Looks}
 use Rattle.quick.specs.Steps.{ClosedGrid}
 use Rattle.search.specs.Steps.{Shows}
 use Rattle.search.specs.declared.Looked.{Looked}
-use Rattle.search.specs.declared.Outcome.{Outcome}
 use Rattle.std.proofs.Common.{Result, Ok, Err}
 use Rattle.search.proofs.TryRight.{whole_searched}
 use Rattle.search.proofs.LookLaws.{a-grid}

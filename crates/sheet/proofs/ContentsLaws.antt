@@ -20,7 +20,7 @@ use Rattle.std.specs.Prelude.{Option, Some, None, Result, Ok, Err, position, map
 use Rattle.std.specs.List.{position_or_len, slice_get}
 use Rattle.std.specs.Result.{result_ok}
 use Rattle.std.specs.Option.{is_some}
-use Rattle.std.proofs.lemmas.Option.{slice_get_read, slice_get_within, slice_get-get_or}
+use Rattle.std.proofs.lemmas.Option.{slice_get_within, slice_get-get_or}
 use Rattle.std.proofs.lemmas.List.{map-append, get_or-take, get_or-map}
 use denote.Ref.{Bor}
 use Rattle.text.specs.Steps.{number_up_to}

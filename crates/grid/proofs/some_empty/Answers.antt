@@ -1,11 +1,8 @@
 -- Whether one of the cells passed so far is empty.
-use mathlib.Core.Path.{◌≡◌, refl, ap, ◌∙◌}
+use mathlib.Core.Path.{refl, ap, ◌∙◌}
 use mathlib.Core.Bool.{Bool, ◌||◌}
-use Prim.Native.Nat.{ℕ}
-use lib.ListN.{length}
 use Rattle.relation.specs.Sets.{some}
 use Rattle.relation.proofs.Tested.{some_next}
-use native.Mathlib.Omega.{arith}
 use Rattle.grid.proofs.some_empty.Invariants.{empty}
 use Rattle.grid.proofs.some_empty.Goals as goal
 

@@ -3,7 +3,6 @@ use mathlib.Core.Path.{◌≡◌}
 use lib.ListN.{length}
 use Rattle.placing.proofs.FillLaws.{Filled}
 use Rattle.placing.specs.Settling.{ends_before}
-use Rattle.placing.specs.Steps.{most_ends}
 use Rattle.placing.proofs.count_ends.Given as goal
 
 abbrev pub invariant-loop-p : goal.invariant-loop-p

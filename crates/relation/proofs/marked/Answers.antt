@@ -1,7 +1,5 @@
 -- The last four digits of n, sixteen apart, each times all relations.
-use Rattle.relation.proofs.PackedLaws.{spread_lt, marked-parts}
-use Prim.Native.Nat.{◌%◌}
-use native.Mathlib.Omega.{arith}
+use Rattle.relation.proofs.PackedLaws.{marked-parts}
 use Rattle.relation.proofs.marked.Goals as goal
 
 pub returns : goal.returns

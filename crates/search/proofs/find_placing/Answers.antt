@@ -1,7 +1,6 @@
 -- A refusal comes first; an accepted grid is searched.
-use mathlib.Core.Path.{sym}
 use Rattle.refusal.proofs.ResultLaws.{none_refused}
-use Rattle.search.proofs.FindLaws.{taken, refuses}
+use Rattle.search.proofs.FindLaws.{taken}
 use Rattle.search.proofs.find_placing.Goals as goal
 
 pub search_accepted-requires : goal.search_accepted-requires

@@ -1,6 +1,6 @@
 -- What the search comes to stays the same from cell to cell.
-use mathlib.Core.Path.{refl, sym, ◌∙◌}
-use Rattle.search.proofs.LookLaws.{tries_left, stands_in, cell-some, alone_stands, alone_goes_on}
+use mathlib.Core.Path.{sym, ◌∙◌}
+use Rattle.search.proofs.LookLaws.{alone_stands, alone_goes_on}
 use native.Mathlib.Omega.{arith}
 use Rattle.search.proofs.pass_decided.Goals as goal
 

@@ -1,5 +1,5 @@
 -- All relations, turned round, are all relations; any other set is turned round.
-use Rattle.grid.proofs.UnlikeLaws.{unlike-all, unlike-is}
+use Rattle.grid.proofs.UnlikeLaws.{unlike-all}
 use Rattle.grid.proofs.Grid.is_unlike.Goals as goal
 
 pub returns-then-set-eq-ALL : goal.returns-then-set-eq-ALL

@@ -1,9 +1,8 @@
 -- No cell passed so far is unlike its mirror.
 use mathlib.Core.Path.{◌≡◌, sym, ◌∙◌, subst}
 use Rattle.relation.proofs.Tested.{NoneBelow, some_yes, some_no}
-use Rattle.grid.proofs.UnlikeLaws.{above, above_begins, above_more, above_found}
+use Rattle.grid.proofs.UnlikeLaws.{above, above_found}
 use native.Mathlib.Omega.{arith}
-use borrow.Author.Rules.{rules}
 use Rattle.grid.proofs.Grid.row_unlike.Goals as goal
 
 pub returns-then-is_unlike : goal.returns-then-is_unlike

@@ -1,8 +1,8 @@
 -- No diagonal cell passed so far is anything but {eq}.
 use mathlib.Core.Path.{◌≡◌, sym, ap, ◌∙◌, subst}
 use mathlib.Core.Bool.{not}
-use borrow.Author.Tests.{eq-eqb, ne_eqb}
-use Rattle.relation.proofs.Tested.{NoneBelow, none_more, some_yes, some_no}
+use borrow.Author.Tests.{ne_eqb}
+use Rattle.relation.proofs.Tested.{NoneBelow, some_yes, some_no}
 use Rattle.grid.specs.Accepted.{not_eq}
 use borrow.Author.Rules.{rules}
 use native.Mathlib.Omega.{arith}

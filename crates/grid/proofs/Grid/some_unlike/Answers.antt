@@ -2,7 +2,7 @@
 use mathlib.Core.Path.{◌≡◌, sym, ◌∙◌, subst}
 use Rattle.grid.specs.Steps.{above_unlike}
 use Rattle.grid.proofs.UnlikeLaws.{above_enough}
-use Rattle.relation.proofs.Tested.{NoneBelow, none_more, some_yes, some_no}
+use Rattle.relation.proofs.Tested.{NoneBelow, some_yes, some_no}
 use borrow.Author.Rules.{rules}
 use native.Mathlib.Omega.{arith}
 use Rattle.grid.proofs.Grid.some_unlike.Goals as goal
