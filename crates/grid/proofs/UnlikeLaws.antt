@@ -1,17 +1,17 @@
 -- A cell that is not the converse of its mirror is found above the diagonal, where the other cells are all right.
 use mathlib.Core.Path.{◌≡◌, sym, ap, ap₂, ◌∙◌, subst}
-use mathlib.Core.Bool.{Bool, true, false, not, ◌&&◌}
+use mathlib.Core.Bool.{Bool, false, not, ◌&&◌}
 use mathlib.Core.List.{List}
 use Prim.Native.Nat.{ℕ, ◌+◌, ◌*◌, ◌≤◌, ◌<◌}
 use native.Mathlib.Decide.{ℕ_discrete, dec_lt}
 use native.Mathlib.Omega.{arith}
-use borrow.Author.Tests.{lt-ltb, le-ltb, ltb-false, eqb-true, eq-eqb, ne_eqb, not-false}
+use borrow.Author.Tests.{lt-ltb, ltb-false, eqb-true, eq-eqb, ne_eqb, not-false}
 use lib.Arith.{digits_lt}
 use lib.Dec.{T, eqb, ltb}
 use lib.ListN.{length, get_or}
 use Rattle.relation.specs.Sets.{some}
 use Rattle.relation.specs.Composition.{converse}
-use Rattle.relation.proofs.Tested.{T_of, and_right, and_both, some_at, some_in, both_ways, NoneBelow, none_more}
+use Rattle.relation.proofs.Tested.{T_of, and_right, and_both, some_at, some_in, both_ways}
 use Rattle.relation.proofs.ExchangeLaws.{converse-all, converse-eq, converse_twice}
 use Rattle.grid.specs.Cells.{cell}
 use Rattle.grid.specs.Accepted.{some_large, not_eq, some_not_eq, unlike, row_unlike, some_unlike}
@@ -28,18 +28,8 @@ unlike-is n g i j set mirror turned e f t = ap₂ (λ (x y : ℕ). not (eqb x y)
 
 -- ---- one row
 
-module _ (n : ℕ) (g : List ℕ) (i : ℕ) where
-  abbrev pub above : ℕ → Bool
-  above j = ltb i j && unlike n g i j
-
-  pub above_begins : NoneBelow above (i + 1)
-  above_begins j h = ap (λ (x : Bool). x && unlike n g i j) (le-ltb i j (omega arith))
-
-  pub above_more : (j : ℕ) → i < j → NoneBelow above j → unlike n g i j ≡ false → NoneBelow above (j + 1)
-  above_more j h f e = none_more above j f (ap₂ ◌&&◌ (lt-ltb i j h) e)
-
-  pub above_found : (j : ℕ) → i < j → unlike n g i j ≡ true → above j ≡ true
-  above_found j h e = ap₂ ◌&&◌ (lt-ltb i j h) e
+abbrev above : ℕ → List ℕ → ℕ → ℕ → Bool
+above n g i j = ltb i j && unlike n g i j
 
 -- ---- all rows
 

@@ -130,12 +130,7 @@ impl<'a> Grid<'a> {
     fn some_not_eq(self) -> bool
         ensures { result ≡ some_not_eq self.entry.n self.entry.cells.now }
     {
-        for i in 0..self.n {
-            if self.get(i, i) != EQ {
-                return true;
-            }
-        }
-        false
+        (0..self.n).any(|i| self.get(i, i) != EQ)
     }
 
     // Cell (j, i) is not the converse of cell (i, j). Where nothing is said of i to j, there is nothing to turn round.
@@ -156,12 +151,7 @@ impl<'a> Grid<'a> {
         requires { i < self.n }
         ensures { result ≡ above_unlike self.entry.n self.entry.cells.now i }
     {
-        for j in i + 1..self.n {
-            if self.is_unlike(i, j) {
-                return true;
-            }
-        }
-        false
+        (i + 1..self.n).any(|j| self.is_unlike(i, j))
     }
 
     // Some cell is not the converse of its mirror. The cells above the diagonal tell, as the others are all right so far.
@@ -169,12 +159,7 @@ impl<'a> Grid<'a> {
         requires { (some_large self.cells.now ≡ false) × (some_not_eq self.n self.cells.now ≡ false) }
         ensures { result ≡ some_unlike self.entry.n self.entry.cells.now }
     {
-        for i in 0..self.n {
-            if self.row_unlike(i) {
-                return true;
-            }
-        }
-        false
+        (0..self.n).any(|i| self.row_unlike(i))
     }
 }
 

@@ -116,13 +116,10 @@ impl<'a> Placed<'a> {
     fn some_late(self) -> bool
         ensures { result ≡ some_late self.entry.grid.n (at self.entry.numbers.now) }
     {
-        for i in 0..self.grid.n {
+        (0..self.grid.n).any(|i| {
             let (start, end) = self.ends(i);
-            if start >= end {
-                return true;
-            }
-        }
-        false
+            start >= end
+        })
     }
 
     // The relation of event i to event j.
@@ -140,24 +137,14 @@ impl<'a> Placed<'a> {
         requires { i < self.grid.n }
         ensures { result ≡ row_missed self.entry.grid.n self.entry.grid.cells.now (at self.entry.numbers.now) i }
     {
-        for j in 0..self.grid.n {
-            if !relation::has(self.grid.get(i, j), self.relation_at(i, j)) {
-                return true;
-            }
-        }
-        false
+        (0..self.grid.n).any(|j| !relation::has(self.grid.get(i, j), self.relation_at(i, j)))
     }
 
     // Some cell has not the relation of its events.
     fn some_missed(self) -> bool
         ensures { result ≡ some_missed self.entry.grid.n self.entry.grid.cells.now (at self.entry.numbers.now) }
     {
-        for i in 0..self.grid.n {
-            if self.row_missed(i) {
-                return true;
-            }
-        }
-        false
+        (0..self.grid.n).any(|i| self.row_missed(i))
     }
 }
 

@@ -11,3 +11,4 @@ pub mod Laws
 pub mod AnswerLaws
 pub mod Edges
 mod PackedLaws
+pub mod AnyLaws

@@ -6,7 +6,6 @@ use native.Mathlib.Nat.{not-suc-le-zero, le_refl}
 use native.Mathlib.Numerals.{add-one}
 use native.Mathlib.Decide.{ℕ_discrete}
 use native.Mathlib.Omega.{arith}
-use borrow.Author.Count.{below_more}
 use lib.Dec.{T, ltb, ltb→lt, lt→ltb}
 use Rattle.relation.specs.Sets.{some}
 
@@ -130,9 +129,6 @@ both_ways false false f g = refl
 -- none below k passes
 abbrev pub NoneBelow : (ℕ → Bool) → ℕ → Type 0
 NoneBelow p k = (i : ℕ) → i < k → p i ≡ false
-
-pub none_more : (p : ℕ → Bool) (k : ℕ) → NoneBelow p k → p k ≡ false → NoneBelow p (k + 1)
-none_more p = below_more (λ i. p i ≡ false)
 
 pub some_yes : (k : ℕ) (p : ℕ → Bool) (i : ℕ) → i < k → p i ≡ true → some k p ≡ true
 some_yes k p i h e = of_T (some k p) (some_in k p i h (subst T (sym e) tt))

@@ -1,14 +1,15 @@
--- No cell passed so far is unlike its mirror.
-use mathlib.Core.Path.{◌≡◌, sym, ◌∙◌, subst}
-use Rattle.relation.proofs.Tested.{NoneBelow, some_yes, some_no}
-use Rattle.grid.proofs.UnlikeLaws.{above, above_found}
-use native.Mathlib.Omega.{arith}
+-- What `any` finds is what some number above i passes.
+use mathlib.Core.Path.{refl, ◌∙◌}
+use Prim.Native.Nat.{◌+◌, ◌-◌}
+use borrow.Author.Rules.{rules}
+use Rattle.std.proofs.lemmas.Iterator.{YieldsList-from_range}
+use Rattle.std.proofs.lemmas.Iterator.Search.{any_from_yields_List}
+use Rattle.relation.proofs.AnyLaws.{any_above}
+use Rattle.grid.specs.Accepted.{unlike}
 use Rattle.grid.proofs.Grid.row_unlike.Goals as goal
-
-pub returns-then-is_unlike : goal.returns-then-is_unlike
-returns-then-is_unlike c = sym (some_yes _ (above _ _ _) c.loop-j.j c.loop-j-test.true (above_found _ _ _ c.loop-j.j (omega arith) (sym c.is_unlike.ensures ∙ c.if-is_unlike.true)))
 
 pub returns : goal.returns
 returns c =
-    let e : c.loop-j.j ≡ c.args.self.n = omega arith in
-    sym (some_no _ _ (subst (NoneBelow (above _ _ _)) e c.loop-j.invariant))
+    any_from_yields_List (unlike c.args.self.n c.args.self.cells.now c.args.i) _ _ c.any.result c.any.ensures.ran
+    (YieldsList-from_range (c.args.i + 1) c.args.self.n (c.args.self.n - (c.args.i + 1)) refl refl) (λ x b q call. search rules)
+    ∙ any_above c.args.self.n c.args.i (unlike c.args.self.n c.args.self.cells.now c.args.i) c.requires
