@@ -20,7 +20,7 @@ def functions(text):
     for m in re.finditer(r'^ *(?:pub )?(?:extern "C" )?fn (\w+)', text, re.M):
         start = text.index('\n', m.start())
         indent = len(m.group(0)) - len(m.group(0).lstrip())
-        opened = re.compile(rf'^(?:.*[^ ] )?\{{$', re.M).search(text, m.start())
+        opened = re.compile(rf'^(?: *|.*[^ ] )\{{$', re.M).search(text, m.start())
         closed = re.compile(rf'^ {{{indent}}}\}}$', re.M).search(text, m.start())
         if opened and closed:
             yield m.group(1), text[m.start():opened.end()], text[opened.end():closed.start()]

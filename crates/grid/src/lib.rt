@@ -30,8 +30,8 @@ pub struct Grid<'a> {
     ghost fits: { n * n ≤ length cells.now },
 }
 
-// Cell (i, j). This, `put` and `put_both` take the cells and n apart, for grids that are written: with a `&mut` inside a struct, each
-// contract would have to say when the loan ends.
+// Cell (i, j). This, `put` and `put_both` take the cells and n apart, for grids that are written, and their bounds stay
+// clauses: with a `&mut` inside a struct, each contract would have to say when the loan ends.
 #[tactic(auto, unfolding(crate::specs::Cells::cell))]
 pub fn get(g: &[u16], n: usize, i: usize, j: usize) -> u16
     requires { (n ≤ 32) × (i < n) × (j < n) × (n * n ≤ length g.now) }
@@ -101,7 +101,7 @@ impl<'a> Grid<'a> {
         Ok(Grid { cells, n })
     }
 
-    // Cell (i, j). That an event is below n stays a clause, here and in other rooms: n is a value, and no type knows it.
+    // Cell (i, j). That an event is below n stays a clause, here and in other crates: n is a value, and no type knows it.
     pub fn get(self, i: usize, j: usize) -> u16
         requires { (i < self.n) × (j < self.n) }
         ensures { result ≡ cell self.entry.n self.entry.cells.now i j }
@@ -163,7 +163,7 @@ impl<'a> Grid<'a> {
     }
 }
 
-// Refusals 1 to 5 of a grid.
+// Refusals 1 to 5 of a grid. The cells and n come apart, as to all public functions: C calls them so.
 pub fn judge(g: &[u16], n: usize) -> Result<(), Refusal>
     ensures { refusal_of result ≡ grid_refusal n g.now }
 {

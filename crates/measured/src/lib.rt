@@ -15,7 +15,7 @@ use refusal::Refusal;
 use search::{Looked, Outcome};
 use sheet::SheetRefusal;
 
-// The kind of an answer, and what it carries, as one number.
+// The kind of an answer, and what it carries, as one number. Kinds are numbers for C, whose program answers in the same way.
 fn coded(kind: u8, value: u64) -> u64
     ensures { result ≡ coded kind value }
 {

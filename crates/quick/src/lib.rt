@@ -47,7 +47,8 @@ fn close_accepted(g: &mut [u16], n: usize, limit: usize) -> End
     end
 }
 
-// Closes a grid without an empty cell, however many takes it needs. Nothing waits before or afterwards.
+// Closes a grid without an empty cell, however many takes it needs. Nothing waits before or afterwards, which stays a clause: it holds
+// of the list at a moment.
 pub fn close_all(list: &mut WaitingList, g: &mut [u16], n: usize) -> End
     requires { (list.old ≡ []) × (length g.old ≡ n * n) × Fair allen n g.old }
     ensures closed { tried_by (ended result g.new) ≡ closes_to allen n g.old }

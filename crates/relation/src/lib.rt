@@ -47,7 +47,8 @@ pub fn compose(a: u16, b: u16) -> Result<u16, Refusal>
     Ok(compose_of(first, second))
 }
 
-// A relation with the two events exchanged.
+// A relation with the two events exchanged. Numbers are cast by `as`, here and in other crates: it is proved to lose nothing, and
+// `from` gives each answer an equation more.
 fn exchanged(r: usize) -> usize
     requires { r < 13 }
     ensures { result ≡ exchanged r }

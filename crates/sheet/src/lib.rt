@@ -95,6 +95,7 @@ fn contents_of<'a>(
     let mut contents = Contents::begun(s);
     let mut a = start;
     for i in 0..n {
+        // By `match`, here and below: of `map_err(|why| ..)?` the proof gets no facts.
         match entry_line(&contents, a) {
             Ok((entry, next)) => {
                 contents.add(entry);

@@ -149,8 +149,8 @@ impl Take {
 }
 
 // One take of (i, j), cut by cut. By itself, since a function clears the room of its rows where it begins: of most pairs nothing is
-// said, and they need none. `Fair` and `Pairs` stay clauses, here and in other rooms: they hold of lent cells and of a list at a
-// moment, and not of each.
+// said, and they need none. `Fair`, `Sees` and `Pairs` stay clauses, here and in other crates: they hold of lent cells and
+// of a list at a moment, and not of each.
 fn take_cuts(
     list: &mut WaitingList,
     g: &mut [u16],
