@@ -81,6 +81,17 @@ module _ (n : ℕ) (g : List ℕ) (a : Accepted n g) where
     closes Closed w = swept w
     closes Contradiction w = cleared w
 
+pub refuses : (n : ℕ) (g : List ℕ) (r : Refusal) → number_of r ≡ grid_refusal n g → PlainCloses n g (Err r) g
+refuses n g r e =
+    record {
+      refusal = e;
+      kept = λ k. refl;
+      long = refl;
+      largest = λ z. let p = number_pos r in absurd (omega arith);
+      closed = λ q. cc;
+      contradiction = λ q. cc;
+    }
+
 -- ---- the kind of the answer and the cells are those of the given grid's closing
 
 abbrev pub plain_kind : Result End Refusal → Kind

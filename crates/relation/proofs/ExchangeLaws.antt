@@ -7,7 +7,7 @@ use lib.Dec.{T, eqb, ltb, eqb→eq, eqb_refl, ltb→lt}
 use lib.Bits.{bit_and, bit_or, and_le_l}
 use Rattle.relation.specs.Comparing.{rel_of}
 use Rattle.relation.specs.Meaning.{Event, exchanged}
-use Rattle.relation.specs.Sets.{member, set_below, set_of, some, union_over}
+use Rattle.relation.specs.Sets.{member, set_below, set_of, some, union_over, Inside}
 use Rattle.relation.specs.Composition.{converse}
 use Rattle.relation.proofs.Tested.{T_of, of_T, and_left, and_right, all, all-at, both_ways}
 use Rattle.relation.proofs.Relations.{rel_of_lt, exactly_one, exchanged-holds}
@@ -102,3 +102,10 @@ converse_and a b =
 pub converse_or : (a b : ℕ) → converse (bit_or a b) ≡ bit_or (converse a) (converse b)
 unfolding converse
 converse_or a b = union_or (λ r. 2 ^ exchanged r) a b
+
+pub converse-inside : (a b : ℕ) → Inside a b → Inside (converse a) (converse b)
+converse-inside a b i =
+    record {
+      each = λ t h w.
+          subst T (sym (member-converse b t h)) (i.each (exchanged t) (exchanged_lt t h) (subst T (member-converse a t h) w));
+    }
