@@ -58,9 +58,9 @@ fn to_of(j: usize, c: usize) -> usize
 
 // A cut that changes its cell, by its number in the take, and what it leaves. Cut 2 * k is the first at k, 2 * k + 1 the second.
 #[derive(Clone, Copy)]
-struct Found {
-    at: usize,
-    set: u16,
+pub struct Found {
+    pub at: usize,
+    pub set: u16,
 }
 
 // The take of (i, j), with the rows of that cell and of its mirror.

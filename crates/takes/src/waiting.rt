@@ -8,7 +8,7 @@ use std::marker::Model;
 
 // The pairs that wait for a take, in their order. The ring holds len of them, the last before place end, and waits marks each of
 // them. A pair waits once at most, so that the ring has a place for each.
-#[derive(Drop)]
+#[derive(Clone, Drop)]
 pub struct WaitingList {
     ring: [u16; 1024],
     waits: [bool; 1024],
