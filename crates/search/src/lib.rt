@@ -36,11 +36,11 @@ pub struct Looked {
 
 // Where the search stands: at cell (i, j) or past the last, with so many cells left and so many tries made.
 #[derive(Clone, Copy)]
-struct Stand {
-    i: usize,
-    j: usize,
-    left: usize,
-    tries: u32,
+pub struct Stand {
+    pub i: usize,
+    pub j: usize,
+    pub left: usize,
+    pub tries: u32,
 }
 
 // The cell after (i, j), in row order.
@@ -102,17 +102,25 @@ fn attempt(list: &mut WaitingList, grid: Grid, cut: &mut [u16], i: usize, j: usi
     quick::close_pair(list, &mut cut[..cells], grid.n, i, j, relation::mark(r))
 }
 
-// Decides the cells of a closed grid from a stand on. Past the last, the placing is written to the room.
-fn look(list: &mut WaitingList, grid: Grid, from: Stand, allowance: u32, room: &mut [i32]) -> Looked
-    requires { (list.old ≡ []) × Stands grid.n allowance from × ClosedGrid grid.n grid.cells.now × (length room.old ≡ 2 * grid.n) }
-    ensures shows { Shows grid.entry.n allowance (goes_on grid.entry.n allowance grid.entry.cells.now from) room.old result room.new }
+// Decides the cells of a closed grid from a stand on. Past the last, the placing is written to the room. The cells and n come
+// apart: of an argument that is a slice itself the compiler knows that the copy of a try shares no cell with it.
+fn look(
+    list: &mut WaitingList,
+    g: &[u16],
+    n: usize,
+    from: Stand,
+    allowance: u32,
+    room: &mut [i32],
+) -> Looked
+    requires { (list.old ≡ []) × Stands n allowance from × ClosedGrid n g.now × (length room.old ≡ 2 * n) }
+    ensures shows { Shows n allowance (goes_on n allowance g.now from) room.old result room.new }
     ensures idle { list.new ≡ [] }
 {
+    let grid = Grid { cells: g, n };
     let at = pass_decided(grid, from, allowance);
     if at.left == 0 {
         return settled(grid, at.tries, room);
     }
-    let n = grid.n;
     let mut work = [0u16; 1024];
     let mut tries = at.tries;
     for r in 0..13 {
@@ -129,11 +137,7 @@ fn look(list: &mut WaitingList, grid: Grid, from: Stand, allowance: u32, room: &
         let End::Closed(_) = attempt(list, grid, &mut work, at.i, at.j, r) else {
             continue;
         };
-        let cut = Grid {
-            cells: &work[..n * n],
-            n,
-        };
-        let below = look(list, cut, at.next(n, tries), allowance, room);
+        let below = look(list, &work[..n * n], n, at.next(n, tries), allowance, room);
         let Outcome::None = below.outcome else {
             return below;
         };
@@ -194,11 +198,7 @@ pub fn search_accepted(g: &[u16], n: usize, allowance: u32, room: &mut [i32]) ->
         left: (cells - n) / 2,
         tries,
     };
-    let closed = Grid {
-        cells: &work[..cells],
-        n,
-    };
-    look(&mut list, closed, first, allowance, room)
+    look(&mut list, &work[..cells], n, first, allowance, room)
 }
 
 // Refusals 1, 2, 6, 3, 4 and 5 of a grid and a room of so many numbers.

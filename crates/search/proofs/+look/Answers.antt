@@ -43,7 +43,7 @@ loop-r-preserved-in_default t c =
     let there = there-is _ _ _ _ _ _ _ _ c.get.ensures c.has.ensures c.if-not-has.false in (
       omega (arith, tries_left _ _ c.loop-r.invariant.0 c.if-tries-allowance.false),
       c.loop-r.invariant.1,
-      sym (turn-emptied _ _ _ _ _ (take (c.args.grid.n * c.args.grid.n) c.attempt.new.cut) _ _ c.attempt.result c.loop-r-test.true there c.if-tries-allowance.false c.attempt.ensures.tried (search rules)) ∙ c.loop-r.invariant.2,
+      sym (turn-emptied _ _ _ _ _ (take (c.args.n * c.args.n) c.attempt.new.cut) _ _ c.attempt.result c.loop-r-test.true there c.if-tries-allowance.false c.attempt.ensures.tried (search rules)) ∙ c.loop-r.invariant.2,
       c.attempt.ensures.idle,
       c.attempt.auto.cut ∙ c.loop-r.invariant.4,
     )

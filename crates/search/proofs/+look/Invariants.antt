@@ -14,6 +14,6 @@ decreases-look l = l.from.left
 
 abbrev pub invariant-loop-r : goal.invariant-loop-r
 invariant-loop-r l = (l.tries ≤ l.allowance) × (l.room ≡ l.initial.room)
-    × (from (there_at l.grid.n) (try_at l.grid.n) l.allowance (search_at l.grid.n l.allowance (pairs_from l.grid.n (after l.grid.n l.at.i l.at.j).0 (after l.grid.n l.at.i l.at.j).1)) (l.at.i, l.at.j) l.grid.cells.now l.r l.tries
-    ≡ search_at l.grid.n l.allowance (pairs_from l.grid.n l.at.i l.at.j) l.grid.cells.now l.at.tries)
+    × (from (there_at l.n) (try_at l.n) l.allowance (search_at l.n l.allowance (pairs_from l.n (after l.n l.at.i l.at.j).0 (after l.n l.at.i l.at.j).1)) (l.at.i, l.at.j) l.g l.r l.tries
+    ≡ search_at l.n l.allowance (pairs_from l.n l.at.i l.at.j) l.g l.at.tries)
     × (l.list ≡ []) × (length l.work ≡ 1024)
