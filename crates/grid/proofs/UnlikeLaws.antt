@@ -28,7 +28,7 @@ unlike-is n g i j set mirror turned e f t = ap₂ (λ (x y : ℕ). not (eqb x y)
 
 -- ---- one row
 
-abbrev above : ℕ → List ℕ → ℕ → ℕ → Bool
+abbrev pub above : ℕ → List ℕ → ℕ → ℕ → Bool
 above n g i j = ltb i j && unlike n g i j
 
 -- ---- all rows

@@ -23,7 +23,7 @@ pub back_is : (x : ℤ) → Small x → back x ≡ x
 back_is x h = to_z-of_z {w = w32} (record { sfits = h })
 
 module _ (x y : ℤ) (hx : Small x) (hy : Small y) where
-  cmp_back : cmp (back x) (back y) ≡ cmp x y
+  pub cmp_back : cmp (back x) (back y) ≡ cmp x y
   cmp_back = ap₂ (λ (p q : ℤ). cmp p q) {x = back x} {y = x} {u = back y} {v = y} (back_is x hx) (back_is y hy)
 
 -- what a comparison told, of the numbers themselves
