@@ -1,37 +1,40 @@
 -- Laws of the contents: a line by itself, a line after others, and the table that keeps them.
-use mathlib.Core.Path.{◌≡◌, refl, sym, ◌∙◌, ap}
+use mathlib.Core.Path.{◌≡◌, refl, sym, ◌∙◌, ap, subst}
 use mathlib.Core.Bool.{Bool, true, false, cond}
 use mathlib.Core.List.{List, [], ◌∷◌, ◌++◌}
 use Prim.Native.Nat.{ℕ, zero, suc, ◌+◌, ◌-◌, ◌≤◌, ◌<◌}
 use native.Mathlib.Omega.{arith}
 use native.Mathlib.Decide.{dec_lt}
+use native.Mathlib.Numerals.{add-one}
 use lib.Dec.{eqb, ltb}
-use lib.ListN.{length, take, drop, get_or, length-append, length-map, get_or-append}
-use lib.Seq.{length-take-le, get_or_at}
+use lib.ListN.{length, take, drop, get_or, set, length-append, length-map, get_or-append}
+use lib.Seq.{length-take-le, take-take, take-suc-set, get_or_at}
 use borrow.Author.Tests.{ltb-true, ltb-false, le-leb, lt-leb}
 use Rattle.refusal.specs.Numbers.{number_of}
 use Rattle.refusal.specs.declared.Refusal.{Refusal}
 use Rattle.text.specs.Text.{is_number, value}
 use Rattle.text.specs.Names.{is_name, same_name}
 use Rattle.text.specs.Steps.{PartEnd}
+use Rattle.text.proofs.PartLaws.{part_length}
 use Rattle.words.specs.Words.{Word}
 use Rattle.sheet.specs.Sheet.{refused, most_statements, lf, fields, name_in, count_in, is_entry, find, listed, entry_fault, owners, next, line_fault, bodies, contents}
 use Rattle.std.specs.Prelude.{Option, Some, None, Result, Ok, Err, position, map, not}
-use Rattle.std.specs.List.{position_or_len, slice_get}
+use Rattle.std.specs.List.{All, position_or_len, slice_get}
 use Rattle.std.specs.Result.{result_ok}
 use Rattle.std.specs.Option.{is_some}
-use Rattle.std.proofs.lemmas.Option.{slice_get_within, slice_get-get_or}
+use Rattle.std.proofs.lemmas.Option.{slice_get_within, slice_get-get_or, get_or_from_slice_get}
 use Rattle.std.proofs.lemmas.List.{map-append, get_or-take, get_or-map}
+use Rattle.std.proofs.lemmas.List.Elements.{All-push}
 use denote.Ref.{Bor}
 use Rattle.text.specs.Steps.{number_up_to}
 use Rattle.text.specs.declared.NoNumber.{NoNumber}
 use Rattle.text.specs.declared.NoNumber.TheVariants.{Above, Not}
 use Rattle.text.proofs.TextLaws.{above_number, no_number}
-use Rattle.sheet.specs.Answers.{name_start}
-use Rattle.sheet.specs.Steps.{parts_from, entries_of, names, counts, name_in_entry, count_in_entry, Stand, PartFrom, EntryIs, EntryHas}
+use Rattle.sheet.specs.Parts.{PartFrom, InSheet}
+use Rattle.sheet.specs.Steps.{parts_from, entries_of, names, starts, counts, name_in_entry, start_in_entry, count_in_entry, Stand, Stands, EntryIs, EntryHas, EntryRead, PartAt}
 use Rattle.sheet.specs.declared.contents.Entry.{Entry}
 use Rattle.sheet.specs.declared.contents.Contents.{Contents}
-use Rattle.sheet.proofs.LineLaws.{line-there, or_refused_lem}
+use Rattle.sheet.proofs.LineLaws.{line-is, line-there, line-ends, or_refused_lem}
 
 -- ---- a line by itself
 
@@ -88,12 +91,34 @@ module _ (ns : List (List ℕ)) (s : List ℕ) (a e : ℕ) (p : PartEnd lf s a e
   pub read_bad : is_entry (take (e - a) (drop a s)) ≡ false → line_fault (entry_fault ns) (parts_from s a) ≡ 9
   read_bad b = line-there s a e p (entry_fault ns) h ∙ entry_bad ns (take (e - a) (drop a s)) b
 
-  module _ (m : List ℕ) (i : is_entry (take (e - a) (drop a s)) ≡ true) (q : name_in (take (e - a) (drop a s)) ≡ m) where
-    pub read_twice : listed ns m ≡ true → line_fault (entry_fault ns) (parts_from s a) ≡ 10
-    read_twice t = line-there s a e p (entry_fault ns) h ∙ entry_twice ns (take (e - a) (drop a s)) i (ap (listed ns) q ∙ t)
+-- the line l of a sheet, after the contents c: its name m, and its number of statements v
+module _ (c : Contents) (a e : ℕ) (p : PartEnd lf c.sheet.now a e) (h : e < length c.sheet.now) (l m : Bor (List ℕ)) (v : ℕ) (q : l.now ≡ take (e - a) (drop a c.sheet.now))
+    (i : EntryIs l m v) where
+  there : line_fault (entry_fault (names c)) (parts_from c.sheet.now a) ≡ entry_fault (names c) l.now
+  there = rw q (line-there c.sheet.now a e p (entry_fault (names c)) h)
 
-    pub read_new : listed ns m ≡ false → line_fault (entry_fault ns) (parts_from s a) ≡ 0
-    read_new t = line-there s a e p (entry_fault ns) h ∙ entry_new ns (take (e - a) (drop a s)) i (ap (listed ns) q ∙ t)
+  pub read_twice : listed (names c) m.now ≡ true → line_fault (entry_fault (names c)) (parts_from c.sheet.now a) ≡ 10
+  read_twice t = there ∙ entry_twice (names c) l.now i.form (ap (listed (names c)) i.name ∙ t)
+
+  pub read_new : PartFrom c.sheet a l → listed (names c) m.now ≡ false → EntryRead c a (record { name = m; start = a; statements = v }) (e + 1)
+  read_new f t =
+      let s = c.sheet.now in
+      let fits : length l.now ≡ e - a = ap length q ∙ part_length lf s a e p in
+      let line : next (parts_from s a) ≡ l.now = line-is s a e p ∙ sym q in
+      let short : length m.now ≤ e - a = omega (arith, fits, i.inside) in
+      record {
+        sound = there ∙ entry_new (names c) l.now i.form (ap (listed (names c)) i.name ∙ t);
+        ends = line-ends s a e p h;
+        start = refl;
+        inside = omega (arith, short, p.low);
+        name = rw line i.name;
+        part = record {
+          from = record { memory = i.part.memory ∙ f.memory; start = omega (arith, i.part.start, f.start) };
+          within = omega (arith, short, p.low);
+          bytes = i.bytes ∙ ap (take (length m.now)) q ∙ take-take (length m.now) (e - a) (drop a s) short;
+        };
+        count = rw line i.count;
+      }
 
 -- ---- the contents, one line of k on
 
@@ -125,11 +150,17 @@ module _ (c : Contents) where
   pub names-length : length (names c) ≡ c.n
   names-length = rw length-map entries-length
 
+  pub starts-length : length (starts c) ≡ c.n
+  starts-length = rw length-map entries-length
+
   pub counts-length : length (counts c) ≡ c.n
   counts-length = rw length-map entries-length
 
   pub count-at : (i : ℕ) (e : Entry) → i < c.n → get_or (counts c) i 0 ≡ (get_or c.entries i e).statements
   count-at i e h = get_or-map count_in_entry (entries_of c) i e 0 (omega (arith, entries-length)) ∙ ap count_in_entry (get_or-take c.n c.entries i e h)
+
+  pub start-at : (i : ℕ) (e : Entry) → i < c.n → get_or (starts c) i 0 ≡ (get_or (entries_of c) i e).start
+  start-at i e h = get_or-map start_in_entry (entries_of c) i e 0 (omega (arith, entries-length))
 
   -- of no event yet
   pub begun-names : c.n ≡ 0 → names c ≡ []
@@ -140,6 +171,25 @@ module _ (c : Contents) where
 
   pub begun-stand : (s : Bor (List ℕ)) → c.n ≡ 0 → Stand s (entries_of c)
   begun-stand s q i e h = absurd (omega (arith, slice_get_within (entries_of c) i e h, entries-length))
+
+  -- the name of event i lies where its entry says
+  pub entry-part : (i : ℕ) (d : Entry) → i < c.n → PartAt c i (get_or c.entries i d).name
+  entry-part i d h =
+      let e = get_or (entries_of c) i d in
+      let l : i < length (entries_of c) = omega (arith, entries-length) in
+      let f = c.inside i d l in
+      subst (λ (x : Entry). PartAt c i x.name) (get_or-take c.n c.entries i d h)
+      (record {
+        bytes = sym (get_or-map name_in_entry (entries_of c) i d [] l);
+        event = λ x q. ap (λ (y : Entry). y.name) (get_or_from_slice_get (entries_of c) i x d q);
+        none = λ g. absurd (omega arith);
+        memory = f.from.memory;
+        start = omega (arith, f.from.start, start-at i d h);
+      })
+
+  pub more-inside : (e : Entry) → c.n < 32 → InSheet c.sheet e → All (InSheet c.sheet) (take (c.n + 1) (set c.entries c.n e))
+  more-inside e h f =
+      subst (All (InSheet c.sheet)) (sym (rw add-one (take-suc-set c.entries c.n e (omega (arith, c.room))))) (All-push (InSheet c.sheet) (entries_of c) e c.inside f)
 
 -- one event more
 module _ (c d : Contents) (e : Entry) (q : entries_of d ≡ entries_of c ++ e ∷ []) where
@@ -152,7 +202,7 @@ module _ (c d : Contents) (e : Entry) (q : entries_of d ≡ entries_of c ++ e �
   pub added-counts : counts d ≡ counts c ++ e.statements ∷ []
   added-counts = ap (map count_in_entry) q ∙ map-append count_in_entry (entries_of c) (e ∷ [])
 
-  pub added-stand : (s : Bor (List ℕ)) → Stand s (entries_of c) → PartFrom s (name_start s.now c.n) e.name → Stand s (entries_of d)
+  pub added-stand : (s : Bor (List ℕ)) → Stand s (entries_of c) → Stands s c.n e → Stand s (entries_of d)
   added-stand s w p i x h =
       let l = entries-length c in
       let m = slice_get_within (entries_of d) i x h in
@@ -229,8 +279,8 @@ module _ (c : Contents) (m : List ℕ) (r : Option ℕ) (e : r ≡ position (λ 
   pub not_listed : r ≡ None → length (names c) ≤ find (names c) m
   not_listed q = ltb-false (find (names c) m) (length (names c)) (find_none (entries_of c) m r e (names c) refl q)
 
-pub entry_had : (l : Bor (List ℕ)) (r : Option Entry) (e : Entry) → EntryHas l r → r ≡ Some e → EntryIs l e
-entry_had l r e w q = rw q at w
+pub entry_had : (l : Bor (List ℕ)) (r : Option (Bor (List ℕ) × ℕ)) (p : Bor (List ℕ) × ℕ) → EntryHas l r → r ≡ Some p → EntryIs l p.0 p.1
+entry_had l r p w q = rw q at w
 
 pub find_le : (ns : List (List ℕ)) (m : List ℕ) → find ns m ≤ length ns
 find_le [] m = omega arith

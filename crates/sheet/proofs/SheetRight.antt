@@ -23,7 +23,8 @@ use Rattle.std.specs.Prelude.{Result, Ok, Err, Some}
 use Rattle.std.specs.List.{slice_get}
 use Rattle.std.proofs.lemmas.Option.{slice_get-get_or}
 use Rattle.sheet.specs.declared.contents.Entry.{Entry}
-use Rattle.sheet.specs.Steps.{names, counts, entries_of, ContentsOf, PartAt, PartFrom, SheetRead}
+use Rattle.sheet.specs.Parts.{PartFrom}
+use Rattle.sheet.specs.Steps.{names, counts, entries_of, ContentsOf, PartAt, SheetRead}
 use Rattle.sheet.specs.declared.contents.Contents.{Contents}
 use Rattle.sheet.specs.declared.SheetRefusal.{SheetRefusal}
 use Rattle.sheet.proofs.ContentsLaws.{entries-length, names-length}
@@ -57,10 +58,10 @@ module _ (s : Bor (List ℕ)) (i : ℕ) (part : Bor (List ℕ)) (g : List ℕ) (
   stands : ContentsOf s c.n c → PartAt c i part → PartFrom s (cond (ltb i c.n) (name_start s.now i) 0) part
   stands k p = elim (dec_lt i c.n) [
     | yes h ↦
-        let d : Entry = record { name = s; statements = 0 } in
+        let d : Entry = record { name = s; start = 0; statements = 0 } in
         let e : slice_get (entries_of c) i ≡ Some (get_or (entries_of c) i d) = slice_get-get_or (entries_of c) i d (omega (arith, entries-length c)) in
         let w = lt-ltb i c.n h in
-        rw (w, p.event (get_or (entries_of c) i d) e) (k.stand i (get_or (entries_of c) i d) e)
+        rw (w, p.event (get_or (entries_of c) i d) e) (k.stand i (get_or (entries_of c) i d) e).part
     | no h ↦
         let w = le-ltb i c.n (omega arith) in
         rw w (subst (λ (x : Bor (List ℕ)). PartFrom x 0 part) k.sheet (p.none (omega arith)))

@@ -12,6 +12,7 @@ use Rattle.statements.specs.Statements.{Statement}
 use Rattle.statements.specs.Grid.{cut_all, grid_of}
 use Rattle.sheet.specs.Sheet.{Outcome, refused, accepted, most_events, lf, parts, first_fault, name_in, count_in, is_entry, entry_fault, find, set_in, other_in, is_statement, statement_fault, owners, next, line_fault, bodies, contents}
 use Rattle.sheet.specs.Answers.{bytes_in, name_start}
+use Rattle.sheet.specs.Parts.{PartFrom, InSheet}
 use Rattle.sheet.specs.declared.SheetRefusal.{SheetRefusal}
 use Rattle.sheet.specs.declared.Place.{Place}
 use Rattle.sheet.specs.declared.contents.Entry.{Entry}
@@ -52,12 +53,15 @@ FirstSays s (Err r) = line_fault first_fault (parts s) ≡ number_of r
 
 -- ---- the contents
 
--- the entries that are filled, their names, and their numbers of statements
+-- the entries that are filled, their names, where these begin, and their numbers of statements
 abbrev pub entries_of : Contents → List Entry
 entries_of c = take c.n c.entries
 
 abbrev pub name_in_entry : Entry → List ℕ
 name_in_entry e = e.name.now
+
+abbrev pub start_in_entry : Entry → ℕ
+start_in_entry e = e.start
 
 abbrev pub count_in_entry : Entry → ℕ
 count_in_entry e = e.statements
@@ -65,31 +69,33 @@ count_in_entry e = e.statements
 abbrev pub names : Contents → List (List ℕ)
 names c = map name_in_entry (entries_of c)
 
+abbrev pub starts : Contents → List ℕ
+starts c = map start_in_entry (entries_of c)
+
 abbrev pub counts : Contents → List ℕ
 counts c = map count_in_entry (entries_of c)
 
--- a part of a text, that starts so many bytes after its first
-pub record PartFrom (s : Bor (List ℕ)) (a : ℕ) (part : Bor (List ℕ)) : Type 0 where
-  pub memory : part.ref_ptr.0 ≡ s.ref_ptr.0
-  pub start : part.ref_ptr.1 ≡ a + s.ref_ptr.1
-
--- a line by itself
-pub record EntryIs (l : Bor (List ℕ)) (e : Entry) : Type 0 where
+-- a line by itself: m, its name, stands at its beginning, and v is its number of statements
+pub record EntryIs (l m : Bor (List ℕ)) (v : ℕ) : Type 0 where
   pub form : is_entry l.now ≡ true
-  pub name : name_in l.now ≡ e.name.now
-  pub part : PartFrom l 0 e.name
-  pub count : count_in l.now ≡ e.statements
+  pub name : name_in l.now ≡ m.now
+  pub part : PartFrom l 0 m
+  pub inside : length m.now ≤ length l.now
+  pub bytes : m.now ≡ take (length m.now) l.now
+  pub count : count_in l.now ≡ v
 
-abbrev pub EntryHas : Bor (List ℕ) → Option Entry → Type 0
-EntryHas l (Some e) = EntryIs l e
+abbrev pub EntryHas : Bor (List ℕ) → Option (Bor (List ℕ) × ℕ) → Type 0
+EntryHas l (Some p) = EntryIs l p.0 p.1
 EntryHas l None = is_entry l.now ≡ false
 
 -- the line that begins at a, after the contents so far
 pub record EntryRead (c : Contents) (a : ℕ) (e : Entry) (b : ℕ) : Type 0 where
   pub sound : line_fault (entry_fault (names c)) (parts_from c.sheet.now a) ≡ 0
   pub ends : Ends c.sheet.now a b
+  pub start : e.start ≡ a
+  pub inside : a + length e.name.now < b
   pub name : name_in (next (parts_from c.sheet.now a)) ≡ e.name.now
-  pub part : PartFrom c.sheet a e.name
+  pub part : InSheet c.sheet e
   pub count : count_in (next (parts_from c.sheet.now a)) ≡ e.statements
 
 abbrev pub EntrySays : Contents → ℕ → Result (Entry × ℕ) Refusal → Type 0
@@ -100,9 +106,14 @@ EntrySays c a (Err r) = line_fault (entry_fault (names c)) (parts_from c.sheet.n
 abbrev pub Short : List (List ℕ) → Type 0
 Short ns = (i : ℕ) → i < length ns → length (get_or ns i []) ≤ longest_name
 
--- each name stands at the beginning of its line
+-- event i: its name stands at the beginning of its line, and ends within the sheet
+pub record Stands (s : Bor (List ℕ)) (i : ℕ) (e : Entry) : Type 0 where
+  pub part : PartFrom s (name_start s.now i) e.name
+  pub start : e.start ≡ name_start s.now i
+  pub within : e.start + length e.name.now ≤ length s.now
+
 abbrev pub Stand : Bor (List ℕ) → List Entry → Type 0
-Stand s es = (i : ℕ) (e : Entry) → slice_get es i ≡ Some e → PartFrom s (name_start s.now i) e.name
+Stand s es = (i : ℕ) (e : Entry) → slice_get es i ≡ Some e → Stands s i e
 
 -- contents of n events
 pub record ContentsOf (s : Bor (List ℕ)) (n : ℕ) (c : Contents) : Type 0 where
@@ -191,3 +202,5 @@ pub record PartAt (c : Contents) (i : ℕ) (part : Bor (List ℕ)) : Type 0 wher
   pub bytes : part.now ≡ get_or (names c) i []
   pub event : (e : Entry) → slice_get (entries_of c) i ≡ Some e → part ≡ e.name
   pub none : c.n ≤ i → PartFrom c.sheet 0 part
+  pub memory : part.ref_ptr.0 ≡ c.sheet.ref_ptr.0
+  pub start : part.ref_ptr.1 ≡ get_or (starts c) i 0 + c.sheet.ref_ptr.1

@@ -1,25 +1,29 @@
 // The contents of a sheet: what its first lines say of its events.
 #![tactic(auto)]
 
-ghost use Rattle.std.specs.Prelude.{◌≡◌, ◌∷◌, ◌++◌, [], ◌≤◌, ◌<◌, length};
+ghost use Rattle.std.specs.Prelude.{◌≡◌, ◌∷◌, ◌++◌, [], ◌≤◌, ◌<◌, length, take};
+ghost use Rattle.std.specs.List.{All};
+ghost use Rattle.sheet.specs.Parts.{InSheet};
 
 use grid::EVENTS;
 
-// An event: its name, which is a part of the sheet, and its number of statements.
+// An event: its name, which is a part of the sheet, where that begins, and its number of statements.
 #[derive(Clone, Copy)]
 pub struct Entry<'a> {
     pub name: &'a [u8],
+    pub start: usize,
     pub statements: usize,
 }
 
 // The first n events of a sheet.
-#[derive(Drop)]
+#[derive(Clone, Copy)]
 pub struct Contents<'a> {
     pub sheet: &'a [u8],
     pub entries: [Entry<'a>; EVENTS],
     pub n: usize,
     ghost room: { length entries ≡ 32 },
     ghost few: { n ≤ 32 },
+    ghost inside: { All (InSheet sheet) (take n entries) },
 }
 
 impl<'a> Contents<'a> {
@@ -33,6 +37,7 @@ impl<'a> Contents<'a> {
     {
         let none = Entry {
             name: &sheet[..0],
+            start: 0,
             statements: 0,
         };
         Contents {
@@ -44,7 +49,8 @@ impl<'a> Contents<'a> {
 
     // One event more.
     pub(crate) fn add(&mut self, entry: Entry<'a>)
-        requires { self.old.n < 32 }
+        requires room { self.old.n < 32 }
+        requires part { InSheet self.old.sheet entry }
         ensures same { self.new.sheet ≡ self.old.sheet }
         ensures more { entries_of self.new ≡ entries_of self.old ++ entry.entry ∷ [] }
     {

@@ -53,8 +53,8 @@ fn first_line(s: &[u8]) -> Result<(usize, usize), Refusal>
     }
 }
 
-// A line of the contents by itself.
-fn entry_form<'a>(l: &'a [u8]) -> Option<Entry<'a>>
+// A line of the contents by itself: its name, and its number of statements.
+fn entry_form<'a>(l: &'a [u8]) -> Option<(&'a [u8], usize)>
     ensures { EntryHas l.entry result }
 {
     let k = text::two_parts(l, SPACE)?;
@@ -63,7 +63,7 @@ fn entry_form<'a>(l: &'a [u8]) -> Option<Entry<'a>>
         return None;
     }
     let statements = text::number_up_to(&l[k + 1..], MOST_STATEMENTS).ok()?;
-    Some(Entry { name, statements })
+    Some((name, statements))
 }
 
 // The line that begins at a, after the contents so far: its event, and where the next line begins.
@@ -76,10 +76,15 @@ fn entry_line<'a>(contents: &Contents<'a>, a: usize) -> Result<(Entry<'a>, usize
     if e == s.len() {
         return Err(Refusal::LineForm);
     }
-    let entry = entry_form(&s[a..e]).ok_or(Refusal::LineForm)?;
-    if contents.find(entry.name).is_some() {
+    let (name, statements) = entry_form(&s[a..e]).ok_or(Refusal::LineForm)?;
+    if contents.find(name).is_some() {
         return Err(Refusal::NameTwice);
     }
+    let entry = Entry {
+        name,
+        start: a,
+        statements,
+    };
     Ok((entry, e + 1))
 }
 

@@ -8,7 +8,8 @@ use denote.Ref.{Bor}
 use Rattle.words.specs.Words.{words}
 use Rattle.sheet.specs.Sheet.{Outcome, contents}
 use Rattle.sheet.specs.Answers.{name_start}
-use Rattle.sheet.specs.Steps.{parts_from, Ends, Begins, PartFrom, Stand, names, counts, entries_of}
+use Rattle.sheet.specs.Parts.{PartFrom, InSheet}
+use Rattle.sheet.specs.Steps.{parts_from, Ends, Begins, Stand, names, counts, entries_of}
 use Rattle.sheet.proofs.LineLaws.{begins_next}
 use Rattle.sheet.proofs.ContentsLaws.{contents_stop, contents_read, contents_done, contents_cong, begun-names, begun-counts, begun-stand, added-n, added-names, added-counts, added-stand}
 use Rattle.sheet.proofs.BodyLaws.{bodies_cong}
@@ -32,6 +33,9 @@ loop-i-init c =
 pub entry_line-requires : goal.entry_line-requires
 entry_line-requires c = let I = c.loop-i.invariant in omega (arith, I.begins.inside, ap (λ (s : Bor (List ℕ)). length s.now) I.keeps.sheet)
 
+pub add-requires : goal.add-requires
+add-requires c = record { room = omega (arith, c.loop-i.invariant.keeps.events); part = c.in-Ok.ensures.part }
+
 pub loop-i-preserved : goal.loop-i-preserved
 loop-i-preserved c =
     let I = c.loop-i.invariant in
@@ -44,13 +48,13 @@ loop-i-preserved c =
     let q = c.add.ensures.more in
     let more : c.args.n - i ≡ suc (c.args.n - (i + 1)) = omega arith in
     let ends = subst (λ (x : Bor (List ℕ)). Ends x.now a c.in-Ok.next) I.keeps.sheet e.ends in
-    let part = subst (λ (x : Bor (List ℕ)). PartFrom x a c.in-Ok.entry.name) I.keeps.sheet e.part in
-    let at : a ≡ name_start s.now it.n = sym (ap (name_start s.now) I.keeps.events ∙ I.begins.bytes) in
+    let part = subst (λ (x : Bor (List ℕ)). InSheet x c.in-Ok.entry) I.keeps.sheet e.part in
+    let at : c.in-Ok.entry.start ≡ name_start s.now it.n = e.start ∙ sym (ap (name_start s.now) I.keeps.events ∙ I.begins.bytes) in
     record {
       keeps = record {
         sheet = c.add.ensures.same ∙ I.keeps.sheet;
         events = omega (arith, added-n it to c.in-Ok.entry q, I.keeps.events);
-        stand = added-stand it to c.in-Ok.entry q s I.keeps.stand (subst (λ (x : ℕ). PartFrom s x c.in-Ok.entry.name) at part);
+        stand = added-stand it to c.in-Ok.entry q s I.keeps.stand (record { part = subst (λ (x : ℕ). PartFrom s x c.in-Ok.entry.name) at part.from; start = at; within = part.within });
       };
       begins = begins_next s.now (i + 1) a c.in-Ok.next I.begins ends;
       says =

@@ -1,6 +1,9 @@
 -- Two fields, of which the first is a name and the second a number up to 999: each test as in the definition.
-use mathlib.Core.Path.{refl, sym, subst, ◌∙◌}
+use mathlib.Core.Path.{◌≡◌, refl, sym, subst, ap, ◌∙◌}
+use Prim.Native.Nat.{ℕ}
 use native.Mathlib.Omega.{arith}
+use lib.ListN.{length, take}
+use lib.Seq.{length-take-le}
 use Rattle.text.proofs.PartLaws.{take_rest}
 use Rattle.text.proofs.TextLaws.{is_number_lem}
 use Rattle.sheet.specs.Steps.{EntryHas}
@@ -22,9 +25,12 @@ returns-in_err-statements c =
 pub returns : goal.returns
 returns c =
     let n = is_number_lem _ _ c.in_ok-statements.statements (sym (rw take_rest at c.number_up_to.ensures) ∙ ok_said c.number_up_to.result _ c.in_ok-statements.ensures.value) in
+    let short : length (take c.in_ok-k.k c.args.l.now) ≡ c.in_ok-k.k = length-take-le c.in_ok-k.k c.args.l.now (omega (arith, c.in_ok-k.ensures.0)) in
     record {
       form = entry-form _ _ c.in_ok-k.ensures.0 c.in_ok-k.ensures.1 (sym c.if-not-is_name.ensures) n.0 n.1;
       name = first-field _ _ c.in_ok-k.ensures.0 c.in_ok-k.ensures.1;
       part = record { memory = refl; start = omega arith };
+      inside = omega (arith, short, c.in_ok-k.ensures.0);
+      bytes = ap (λ (x : ℕ). take x c.args.l.now) (sym short);
       count = second-field _ _ c.in_ok-k.ensures.0 c.in_ok-k.ensures.1 ∙ n.2;
     }
