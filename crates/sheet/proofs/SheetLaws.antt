@@ -15,8 +15,10 @@ use Rattle.words.specs.Words.{Word, words}
 use Rattle.statements.specs.Grid.{start_grid}
 use Rattle.statements.proofs.GridLaws.{grid_front}
 use Rattle.sheet.specs.Sheet.{refused, most_bytes, most_events, lf, parts, first_fault, line_fault, contents, sheet}
+use Rattle.std.specs.Prelude.{Result, Ok, Err}
 use denote.Ref.{Bor}
-use Rattle.sheet.specs.Steps.{parts_from, names, counts, FirstRead, ContentsRead, BodiesRead, SheetRead}
+use Rattle.sheet.specs.Steps.{parts_from, names, counts, FirstRead, ContentsRead, BodiesSay, SheetSays}
+use Rattle.sheet.specs.declared.SheetRefusal.{SheetRefusal}
 use Rattle.sheet.specs.declared.contents.Contents.{Contents}
 use Rattle.sheet.proofs.LineLaws.{line-is, line_missing, line-there, line-ends, begins_first, begins_next, or_refused_lem}
 use Rattle.sheet.proofs.ContentsLaws.{names-length, counts-length}
@@ -68,10 +70,17 @@ module _ (s : List ℕ) (h : length s ≤ most_bytes) where
 
 -- ---- the rest
 
+-- the contents, or the refusal of the bodies
+abbrev pub answered : Contents → Result Unit SheetRefusal → Result Contents SheetRefusal
+answered c (Ok u) = Ok c
+answered c (Err r) = Err r
+
 -- contents read, a grid filled, and what the bodies say
 pub sheet-says : (known : List Word) (s : Bor (List ℕ)) (g g' : List ℕ) (n a : ℕ) (c : Contents) (b : ℕ) → ContentsRead known s n a c b
-    → take (n * n) g ≡ start_grid n → BodiesRead known c b g g' → SheetRead (contents known n [] [] (parts_from s.now a) 2) s g' c
-sheet-says known s g g' n a c b r f y =
+    → take (n * n) g ≡ start_grid n → (x : Result Unit SheetRefusal) → BodiesSay known c b g g' x
+    → SheetSays (contents known n [] [] (parts_from s.now a) 2) s g' (answered c x)
+sheet-says known s g g' n a c b r f (Err q) y = r.says ∙ y
+sheet-says known s g g' n a c b r f (Ok u) y =
     let many = names-length c in
     let start : take (c.n * c.n) g ≡ start_grid c.n = rw r.keeps.events f in
     record {
