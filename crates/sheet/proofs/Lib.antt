@@ -1,6 +1,7 @@
 pub mod LineLaws
 pub mod FitLaws
 pub mod ContentsLaws
+pub mod PlaceLaws
 pub mod NameLaws
 pub mod BodyLaws
 pub mod RefusedLaws

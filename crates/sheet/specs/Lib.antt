@@ -1,4 +1,5 @@
 pub mod Sheet
 pub mod Answers
 pub mod Parts
+pub mod Places
 pub mod Steps

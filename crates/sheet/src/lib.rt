@@ -5,6 +5,7 @@ ghost use Rattle.std.specs.Prelude.{◌≡◌, [], ◌+◌, ◌*◌, ◌≤◌, 
 ghost use Rattle.words.specs.Words.{words};
 ghost use Rattle.sheet.specs.Sheet.{most_events, contents, sheet};
 ghost use Rattle.sheet.specs.Answers.{room_cells, Reads, NamePart};
+ghost use Rattle.sheet.specs.Places.{Keeps, PlacedPart};
 ghost use Rattle.sheet.specs.Steps.{parts_from, Begins, FirstSays, EntryHas, EntrySays, StatementHas, StatementSays, names, ContentsSay, BodySays, BodiesSay, SheetSays};
 
 mod contents;
@@ -248,6 +249,21 @@ pub fn read_sheet(s: &[u8], room: &mut [u16]) -> Result<usize, SheetRefusal>
     let n = read_into(s, &mut g)?.n;
     grid::copy(room, &g, n * n);
     Ok(n)
+}
+
+// The name of event i of n, by the places of the names; the empty part at the sheet's beginning where there is no event i. For a
+// caller that keeps the places as numbers, where each name begins and how long it is, one after the other.
+pub fn name_at<'a>(s: &'a [u8], places: &[usize], n: usize, i: usize) -> &'a [u8]
+    requires { Keeps s.now places.now n }
+    ensures { PlacedPart s.entry places.now n i result }
+{
+    if i < n {
+        let a = places[2 * i];
+        let e = a + places[2 * i + 1];
+        &s[a..e]
+    } else {
+        &s[..0]
+    }
 }
 
 // The name of event i as a part of the sheet; the empty part at its beginning for a sheet that is refused, or where there is no event i.
