@@ -84,14 +84,11 @@ fn told(answer: Result<usize, SheetRefusal>) -> (Answer, usize) {
     }
 }
 
-// Where the name of an event starts: at the beginning of its line, which is that after i + 1 others.
+// Where the name of an event starts in the sheet, as the contents say.
 fn name_start(bytes: &[u8], i: usize) -> usize {
     let mut g = [0u16; CELLS];
     match sheet::read_into(bytes, &mut g) {
-        Ok(contents) if i < contents.n => bytes
-            .split(|b| *b == sheet::LF)
-            .take(i + 1)
-            .fold(0, |at: usize, line| at.saturating_add(line.len() + 1)),
+        Ok(contents) if i < contents.n => contents.entries[i].start,
         _ => 0,
     }
 }
