@@ -127,9 +127,9 @@ pub record ContentsRead (known : List Word) (s : Bor (List ℕ)) (n a : ℕ) (c 
   pub keeps : ContentsOf s n c
   pub says : contents known n [] [] (parts_from s.now a) 2 ≡ bodies known (names c) (counts c) (owners 0 (counts c)) [] (parts_from c.sheet.now b) (c.n + 2)
 
-abbrev pub ContentsSay : List Word → Bor (List ℕ) → ℕ → ℕ → Result (Contents × ℕ) SheetRefusal → Type 0
-ContentsSay known s n a (Ok p) = ContentsRead known s n a p.0 p.1
-ContentsSay known s n a (Err r) = contents known n [] [] (parts_from s.now a) 2 ≡ refused (number_of r.why) r.line
+abbrev pub ContentsSay : List Word → Bor (List ℕ) → ℕ → ℕ → Contents → Result ℕ SheetRefusal → Type 0
+ContentsSay known s n a c (Ok b) = ContentsRead known s n a c b
+ContentsSay known s n a c (Err r) = contents known n [] [] (parts_from s.now a) 2 ≡ refused (number_of r.why) r.line
 
 -- ---- the bodies: each statement cuts the grid
 

@@ -89,20 +89,16 @@ fn entry_line<'a>(contents: &Contents<'a>, a: usize) -> Result<(Entry<'a>, usize
     Ok((entry, e + 1))
 }
 
-// The n lines of the contents, of which the first is line 2 and begins at start; and where the next line begins.
-fn contents_of<'a>(
-    s: &'a [u8],
-    n: usize,
-    start: usize,
-) -> Result<(Contents<'a>, usize), SheetRefusal>
-    requires { (n ≤ most_events) × Begins s.now 1 start }
-    ensures { ContentsSay words s.entry n start result }
+// The n lines of the contents, of which the first is line 2 and begins at start; and where the next line begins. Into contents that
+// are lent: to hand so many entries on takes longer than to read a short sheet.
+fn contents_of(contents: &mut Contents, n: usize, start: usize) -> Result<usize, SheetRefusal>
+    requires { (contents.old.n ≡ 0) × (n ≤ most_events) × Begins contents.old.sheet.now 1 start }
+    ensures { ContentsSay words contents.old.sheet n start contents.new result }
 {
-    let mut contents = Contents::begun(s);
     let mut a = start;
     for i in 0..n {
         // By `match`, here and below: of `map_err(|why| ..)?` the proof gets no facts.
-        match entry_line(&contents, a) {
+        match entry_line(contents, a) {
             Ok((entry, next)) => {
                 contents.add(entry);
                 a = next;
@@ -112,7 +108,7 @@ fn contents_of<'a>(
             }
         }
     }
-    Ok((contents, a))
+    Ok(a)
 }
 
 // A statement line by itself: the set of its words, and the other event's name.
@@ -212,7 +208,8 @@ fn lines_into<'a>(
     requires { (n ≤ most_events) × Begins s.now 1 start × (n * n ≤ length g.old) }
     ensures { SheetSays (contents words n [] [] (parts_from s.now start) 2) s.entry g.new result }
 {
-    let (contents, bodies) = contents_of(s, n, start)?;
+    let mut contents = Contents::begun(s);
+    let bodies = contents_of(&mut contents, n, start)?;
     statements::fill_start(g, n);
     bodies_of(&contents, bodies, g)?;
     Ok(contents)

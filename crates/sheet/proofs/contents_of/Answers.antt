@@ -6,28 +6,23 @@ use native.Mathlib.Omega.{arith}
 use lib.ListN.{length}
 use denote.Ref.{Bor}
 use Rattle.words.specs.Words.{words}
-use Rattle.sheet.specs.Sheet.{Outcome, contents}
 use Rattle.sheet.specs.Answers.{name_start}
 use Rattle.sheet.specs.Parts.{PartFrom, InSheet}
-use Rattle.sheet.specs.Steps.{parts_from, Ends, Begins, Stand, names, counts, entries_of}
+use Rattle.sheet.specs.Steps.{parts_from, Ends, names, counts}
 use Rattle.sheet.proofs.LineLaws.{begins_next}
 use Rattle.sheet.proofs.ContentsLaws.{contents_stop, contents_read, contents_done, contents_cong, begun-names, begun-counts, begun-stand, added-n, added-names, added-counts, added-stand}
 use Rattle.sheet.proofs.BodyLaws.{bodies_cong}
 use Rattle.sheet.proofs.contents_of.Goals as goal
 
--- what n lines from start on say of the sheet s
-abbrev says : ℕ → ℕ → Bor (List ℕ) → Outcome
-says n start s = contents words n [] [] (parts_from s.now start) 2
-
 pub loop-i-init : goal.loop-i-init
 loop-i-init c =
-    let it = c.begun-contents.result in
-    let b = c.begun-contents.ensures in
+    let it = c.args.contents.now in
+    let b = c.requires.0 in
     let z : c.args.n - 0 ≡ c.args.n = omega arith in
     record {
-      keeps = record { sheet = refl; events = b.1; stand = begun-stand it it.sheet b.1 };
-      begins = subst (λ (s : Bor (List ℕ)). Begins s.now 1 c.args.start) (sym b.0) c.requires.1;
-      says = rw (z, begun-names it b.1, begun-counts it b.1);
+      keeps = record { sheet = refl; events = b; stand = begun-stand it it.sheet b };
+      begins = c.requires.2;
+      says = rw (z, begun-names it b, begun-counts it b);
     }
 
 pub entry_line-requires : goal.entry_line-requires
@@ -39,7 +34,7 @@ add-requires c = record { room = omega (arith, c.loop-i.invariant.keeps.events);
 pub loop-i-preserved : goal.loop-i-preserved
 loop-i-preserved c =
     let I = c.loop-i.invariant in
-    let s = c.begun-contents.result.sheet in
+    let s = c.args.contents.now.sheet in
     let it = c.loop-i.contents in
     let to = c.add.new.self in
     let i = c.loop-i.i in
@@ -70,30 +65,23 @@ loop-i-preserved c =
 pub returns-in-Err : goal.returns-in-Err
 returns-in-Err c =
     let I = c.loop-i.invariant in
-    let s = c.begun-contents.result.sheet in
+    let s = c.args.contents.now.sheet in
     let it = c.loop-i.contents in
     let i = c.loop-i.i in
     let more : c.args.n - i ≡ suc (c.args.n - (i + 1)) = omega arith in
-    ap (says c.args.n c.args.start) (sym c.begun-contents.ensures.0)
-    ∙ I.says
+    I.says
     ∙ contents_stop words (c.args.n - i) (c.args.n - (i + 1)) more (names it) (counts it) (parts_from s.now c.loop-i.a) (i + 2) c.in-Err.why (rw I.keeps.sheet at c.in-Err.ensures)
 
 pub returns : goal.returns
 returns c =
     let I = c.loop-i.invariant in
-    let s = c.begun-contents.result.sheet in
-    let b = c.begun-contents.ensures.0 in
+    let s = c.args.contents.now.sheet in
     let it = c.loop-i.contents in
     record {
-      inside = omega (arith, I.begins.inside, ap (λ (x : Bor (List ℕ)). length x.now) b);
-      keeps = record {
-        sheet = I.keeps.sheet ∙ b;
-        events = omega (arith, I.keeps.events);
-        stand = subst (λ (x : Bor (List ℕ)). Stand x (entries_of it)) b I.keeps.stand;
-      };
+      inside = I.begins.inside;
+      keeps = record { sheet = I.keeps.sheet; events = omega (arith, I.keeps.events); stand = I.keeps.stand };
       says =
-          ap (says c.args.n c.args.start) (sym b)
-          ∙ I.says
+          I.says
           ∙ contents_done words (c.args.n - c.loop-i.i) (omega arith) (names it) (counts it) (parts_from s.now c.loop-i.a) (c.loop-i.i + 2)
           ∙ bodies_cong words (names it) (counts it) refl refl (ap (λ (x : Bor (List ℕ)). parts_from x.now c.loop-i.a) (sym I.keeps.sheet)) (omega (arith, I.keeps.events));
     }
