@@ -10,7 +10,7 @@ use std::io;
 use std::io::{Read, Write};
 
 // One byte more than a sheet may have, so that a longer one is seen as such.
-const ROOM: usize = 65537;
+pub const ROOM: usize = 65537;
 
 // Reads up to the end of the input, or until the room is full: how many bytes came. A read that fails ends it with its error.
 pub fn read_sheet<R: Read>(reader: &mut R, room: &mut [u8]) -> io::Result<usize>
