@@ -2,7 +2,7 @@
 // first. What they write is compared with stored answers.
 #![tactic(auto)]
 
-ghost use Rattle.std.specs.Prelude.{◌*◌, ◌%◌, ◌^◌, ◌≤◌, ◌≡◌, ◌∷◌, ◌++◌, true, false, Ok, None, OnOk, length};
+ghost use Rattle.std.specs.Prelude.{◌*◌, ◌%◌, ◌^◌, ◌≤◌, ◌≡◌, ◌∷◌, ◌++◌, true, false, Ok, None, OnOk, length, take};
 ghost use Rattle.std.specs.Int.{w32, to_le_bytes};
 ghost use Rattle.std.specs.Io.KnownBytes.{Appends, Consumes, IsAtEnd};
 ghost use Rattle.refusal.specs.Numbers.{number_of};
@@ -14,6 +14,9 @@ use std::io::{Read, Write};
 
 // At most so many cases are answered.
 const MOST: usize = 100000;
+
+// The longest answer of the programs: a kind and its number, and 1100 cells.
+const LONGEST: usize = 5 + 2 * 1100;
 
 // What kind of answer came, and its number. A kind is a number, as in the stored cases.
 #[derive(Clone, Copy)]
@@ -92,12 +95,31 @@ pub fn receive_numbers<R: Read, const N: usize>(reader: &mut R) -> io::Result<Op
     Ok(Some(numbers))
 }
 
-// Writes an answer and what comes with it. A write that fails ends it with its error.
+// Writes the first n bytes of the room, or nothing where it is shorter. A write that fails ends it with its error.
+pub fn send_front<W: Write>(writer: &mut W, room: &[u8], n: usize) -> io::Result<()>
+    ensures written { OnOk result (n ≤ length room.now → Appends (W.contents writer.old) (W.contents writer.new) (take n room.now)) }
+{
+    if n <= room.len() {
+        writer.write_all(&room[..n])?;
+    }
+    Ok(())
+}
+
+// Writes an answer and what comes with it, by one write where both have room side by side: who reads the answers then sees
+// each whole. A write that fails ends it with its error.
 pub fn send<W: Write>(writer: &mut W, answer: Answer, rest: &[u8]) -> io::Result<()>
     ensures written { OnOk result (Appends (W.contents writer.old) (W.contents writer.new) ((answer.kind ∷ to_le_bytes w32 answer.number) ++ rest.now)) }
 {
-    writer.write_all(&answer.to_bytes())?;
-    writer.write_all(rest)
+    let head = answer.to_bytes();
+    let n = head.len() + rest.len();
+    if LONGEST < n {
+        writer.write_all(&head)?;
+        return writer.write_all(rest);
+    }
+    let mut room = [0u8; LONGEST];
+    room[..head.len()].copy_from_slice(&head);
+    room[head.len()..n].copy_from_slice(rest);
+    send_front(writer, &room, n)
 }
 
 // Answers one case after the other, until there is none: `answered` says whether there was one.

@@ -29,7 +29,7 @@ fn answered<R: Read, W: Write>(reader: &mut R, writer: &mut W) -> io::Result<boo
         bytes_of(relation::converse(a)),
         bytes_of(relation::compose(a, b)),
     ];
-    writer.write_all(answers.as_flattened())?;
+    cases::send_front(writer, answers.as_flattened(), 6)?;
     Ok(true)
 }
 
