@@ -35,15 +35,15 @@ fn checksum(cells: &[u16]) -> u32 {
     })
 }
 
-// Copies the piece so often, from a place on, as it fits: where it ends. The place comes beside the bytes, since three pieces follow
-// each other there.
+// Copies the piece so often, from a place on, as it fits: where it ends. An empty piece would fit for ever, and isn't copied. The
+// place comes beside the bytes, since three pieces follow each other there.
 fn repeat(bytes: &mut [u8], start: usize, piece: &[u8], times: usize) -> usize
     requires { start ≤ length bytes.old }
     ensures { result ≤ length bytes.new }
 {
     let mut at = start;
     for _ in 0..times {
-        if bytes.len() - at < piece.len() {
+        if piece.is_empty() || bytes.len() - at < piece.len() {
             break;
         }
         bytes[at..at + piece.len()].copy_from_slice(piece);
