@@ -18,6 +18,9 @@ const BYTES: usize = 65537;
 
 const CELLS: usize = 2048;
 
+// An answer has room for a name of so many bytes, more than a name has.
+const NAME: usize = 43;
+
 // The checksum is worked out modulo a prime below 2 to the power 32.
 const PRIME: u64 = 4294967291;
 
@@ -105,8 +108,14 @@ fn answer<W: Write>(writer: &mut W, bytes: &[u8], cells: &mut [u16], i: usize) -
         cases::low32(name.len()),
     ]
     .map(u32::to_le_bytes);
-    cases::send(writer, answer, numbers.as_flattened())?;
-    writer.write_all(name)
+    if NAME < name.len() {
+        return Ok(());
+    }
+    let end = 16 + name.len();
+    let mut rest = [0u8; 16 + NAME];
+    rest[..16].copy_from_slice(numbers.as_flattened());
+    rest[16..end].copy_from_slice(name);
+    cases::send(writer, answer, &rest[..end])
 }
 
 // Answers one case: whether there was one.
