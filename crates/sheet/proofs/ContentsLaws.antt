@@ -91,15 +91,16 @@ module _ (ns : List (List ℕ)) (s : List ℕ) (a e : ℕ) (p : PartEnd lf s a e
   pub read_bad : is_entry (take (e - a) (drop a s)) ≡ false → line_fault (entry_fault ns) (parts_from s a) ≡ 9
   read_bad b = line-there s a e p (entry_fault ns) h ∙ entry_bad ns (take (e - a) (drop a s)) b
 
+  module _ (m : List ℕ) (i : is_entry (take (e - a) (drop a s)) ≡ true) (q : name_in (take (e - a) (drop a s)) ≡ m) where
+    pub read_twice : listed ns m ≡ true → line_fault (entry_fault ns) (parts_from s a) ≡ 10
+    read_twice t = line-there s a e p (entry_fault ns) h ∙ entry_twice ns (take (e - a) (drop a s)) i (ap (listed ns) q ∙ t)
+
+    pub read_sound : listed ns m ≡ false → line_fault (entry_fault ns) (parts_from s a) ≡ 0
+    read_sound t = line-there s a e p (entry_fault ns) h ∙ entry_new ns (take (e - a) (drop a s)) i (ap (listed ns) q ∙ t)
+
 -- the line l of a sheet, after the contents c: its name m, and its number of statements v
 module _ (c : Contents) (a e : ℕ) (p : PartEnd lf c.sheet.now a e) (h : e < length c.sheet.now) (l m : Bor (List ℕ)) (v : ℕ) (q : l.now ≡ take (e - a) (drop a c.sheet.now))
     (i : EntryIs l m v) where
-  there : line_fault (entry_fault (names c)) (parts_from c.sheet.now a) ≡ entry_fault (names c) l.now
-  there = rw q (line-there c.sheet.now a e p (entry_fault (names c)) h)
-
-  pub read_twice : listed (names c) m.now ≡ true → line_fault (entry_fault (names c)) (parts_from c.sheet.now a) ≡ 10
-  read_twice t = there ∙ entry_twice (names c) l.now i.form (ap (listed (names c)) i.name ∙ t)
-
   pub read_new : PartFrom c.sheet a l → listed (names c) m.now ≡ false → EntryRead c a (record { name = m; start = a; statements = v }) (e + 1)
   read_new f t =
       let s = c.sheet.now in
@@ -107,7 +108,7 @@ module _ (c : Contents) (a e : ℕ) (p : PartEnd lf c.sheet.now a e) (h : e < le
       let line : next (parts_from s a) ≡ l.now = line-is s a e p ∙ sym q in
       let short : length m.now ≤ e - a = omega (arith, fits, i.inside) in
       record {
-        sound = there ∙ entry_new (names c) l.now i.form (ap (listed (names c)) i.name ∙ t);
+        sound = read_sound (names c) s a e p h m.now (ap is_entry (sym q) ∙ i.form) (ap name_in (sym q) ∙ i.name) t;
         ends = line-ends s a e p h;
         start = refl;
         inside = omega (arith, short, p.low);
