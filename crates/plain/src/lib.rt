@@ -116,7 +116,7 @@ fn cut_routes(
     b: usize,
     first: (usize, u16),
 ) -> Result<(), Emptied>
-    requires { (rows.now ≡ cell n g.old m b) × (m < n) × (b < n) × (m ≡ b → ⊥) × Finds n m b g.old 0 (Some first) × Fair allen n g.old }
+    requires { (rows.now.set ≡ cell n g.old m b) × (m < n) × (b < n) × (m ≡ b → ⊥) × Finds n m b g.old 0 (Some first) × Fair allen n g.old }
     ensures { CutsFrom n m b g.old result g.new }
 {
     let mut route = Some(first);
@@ -141,7 +141,7 @@ fn next_route(
     b: usize,
     k: usize,
 ) -> Option<(usize, u16)>
-    requires { (rows.now ≡ cell n g.now m b) × (m < n) × (b < n) × (k ≤ b) × Held n g.now }
+    requires { (rows.now.set ≡ cell n g.now m b) × (m < n) × (b < n) × (k ≤ b) × Held n g.now }
     ensures { Finds n m b g.now k result }
 {
     for a in k..b {

@@ -1,7 +1,7 @@
 // Sets of the thirteen relations: converse and composition.
 #![tactic(auto)]
 
-ghost use Rattle.std.specs.Prelude.{ℕ, cond, ltb, ◌≡◌, ◌+◌, ◌-◌, ◌*◌, ◌%◌, ◌^◌, ◌<◌};
+ghost use Rattle.std.specs.Prelude.{cond, ltb, ◌≡◌, ◌+◌, ◌-◌, ◌*◌, ◌%◌, ◌^◌, ◌<◌};
 ghost use Rattle.std.specs.Int.Count.{count_trailing_zeros};
 ghost use Rattle.refusal.specs.Answered.{said_of, unless_due};
 ghost use Rattle.relation.specs.Meaning.{exchanged};
@@ -13,7 +13,6 @@ ghost use Rattle.relation.specs.Answers.{how_many_sets, converse_said, compose_s
 mod table;
 
 use refusal::Refusal;
-use std::marker::Model;
 use table::TABLE;
 
 // The number of each relation with the two events exchanged.
@@ -189,27 +188,19 @@ fn rows_from<const R: usize>(b: u16) -> u64
 }
 
 // The thirteen relations, each with a set: the twelve but eq four to a number, and the set itself, which is the row of eq.
-#[derive(Drop)]
+#[derive(Clone, Copy)]
 pub struct Rows {
-    low: u64,
-    middle: u64,
-    high: u64,
-    set: u16,
-}
-
-// In a contract the rows are their set.
-impl Model for Rows {
-    ghost Value = { ℕ };
-
-    ghost view = { λ r. r.set };
-
-    ghost invariant = { λ r. RowsOf r.set r.low r.middle r.high };
+    pub low: u64,
+    pub middle: u64,
+    pub high: u64,
+    pub set: u16,
+    ghost right: { RowsOf set low middle high },
 }
 
 impl Rows {
     // The rows of a set.
     pub fn of(set: u16) -> Rows
-        ensures { result ≡ set }
+        ensures { result.set ≡ set }
     {
         let low = rows_from::<0>(set);
         let middle = rows_from::<4>(set);
@@ -224,7 +215,7 @@ impl Rows {
 
     // The composition of a set with that of the rows.
     pub fn compose(&self, a: u16) -> u16
-        ensures { result ≡ compose a self.now }
+        ensures { result ≡ compose a self.now.set }
     {
         let low = self.low & marked(a);
         let middle = self.middle & marked(a / 16);

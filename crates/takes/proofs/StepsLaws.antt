@@ -40,9 +40,9 @@ module _ (n : ℕ) (g : List ℕ) (F : Fair allen n g) (t : Take) (S : Sees n g 
   abbrev G : Good allen n g g
   G = fair_good allen lawful n g F
 
-  module _ (by : x ≡ compose kj t.back) where
+  module _ (by : x ≡ compose kj t.back.set) where
     left_first : bit_and ki x ≡ cut_to allen (cell n g) k j i
-    left_first = left_is n k j i g ki kj t.back x ei ej S.back by
+    left_first = left_is n k j i g ki kj t.back.set x ei ej S.back by
 
     pub first_quiet : bit_and ki x ≡ ki → Quiet n i j g (k * 2)
     first_quiet e q = go (ℕ_discrete k i)
@@ -61,9 +61,9 @@ module _ (n : ℕ) (g : List ℕ) (F : Fair allen n g) (t : Take) (S : Sees n g 
           less = λ u. rw (first-from i j k, first_to i j k) (λ z. turned_less allen lawful n i j k S.from S.to hk g g G (λ m. u (same_place ∙ m)) (λ m. ne (left_first ∙ m ∙ sym ei)) (sym (turned u) ∙ z));
         }
 
-  module _ (by : x ≡ compose ki t.there) where
+  module _ (by : x ≡ compose ki t.there.set) where
     left_second : bit_and kj x ≡ cut_to allen (cell n g) k i j
-    left_second = left_is n k i j g kj ki t.there x ej ei S.there by
+    left_second = left_is n k i j g kj ki t.there.set x ej ei S.there by
 
     pub second_quiet : bit_and kj x ≡ kj → Quiet n i j g (k * 2 + 1)
     second_quiet e q =

@@ -20,8 +20,8 @@ pub record Sees (n : ℕ) (g : List ℕ) (t : Take) : Type 0 where
   pub from : t.i < n
   pub to : t.j < n
   pub apart : t.i ≡ t.j → ⊥
-  pub there : t.there ≡ cell n g t.i t.j
-  pub back : t.back ≡ cell n g t.j t.i
+  pub there : t.there.set ≡ cell n g t.i t.j
+  pub back : t.back.set ≡ cell n g t.j t.i
 
 -- cut c in the take of (i, j) changes nothing, whatever waits
 abbrev pub Quiet : ℕ → ℕ → ℕ → List ℕ → ℕ → Type 0

@@ -19,7 +19,7 @@ left b (Some f) = b - f.0
 left b None = 0
 
 abbrev pub invariant-loop-route : goal.invariant-loop-route
-invariant-loop-route l = Cuts allen l.n l.initial.g l.g × (l.rows ≡ cell l.n l.g l.m l.b) × Ahead l.n l.m l.b l.initial.g l.g l.route
+invariant-loop-route l = Cuts allen l.n l.initial.g l.g × (l.rows.set ≡ cell l.n l.g l.m l.b) × Ahead l.n l.m l.b l.initial.g l.g l.route
 
 abbrev pub decreases-loop-route : goal.decreases-loop-route
 decreases-loop-route l = left l.b l.route
