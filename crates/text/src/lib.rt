@@ -15,7 +15,9 @@ fn first_at(s: &[u8], c: u8) -> Option<usize>
     s.iter().position(|x| *x == c)
 }
 
-// Where the part that starts at a ends: at the first c from there on, or at the end of the text.
+// Where the part that starts at a ends: at the first c from there on, or at the end of the text. Not inlined: in a large caller what
+// it counts by would lie in memory.
+#[inline(never)]
 pub fn part_end(s: &[u8], a: usize, c: u8) -> usize
     requires { a ≤ length s.now }
     ensures { PartEnd c s.now a result }

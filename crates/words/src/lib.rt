@@ -46,7 +46,9 @@ fn meaning_of(w: &[u8]) -> Option<u16>
     look_up(&WORDS, w)
 }
 
-// The union of the words of a field, or none where a part between commas is no word.
+// The union of the words of a field, or none where a part between commas is no word. Not inlined: in a large caller the union so far
+// and the words to come would lie in memory.
+#[inline(never)]
 pub fn union_of(f: &[u8]) -> Option<u16>
     ensures { result ≡ union_with words 0 (joined f.now) }
 {
